@@ -1,6 +1,6 @@
 """Programs compared on the same cases, in turns, and the tables of bench/README.md.
 
-    bench.py compare [seq run busy growth ..] [--write] [--peer FOLDER] [--prototype FOLDER]
+    bench.py compare [seq run busy options growth ..] [--write] [--peer FOLDER] [--prototype FOLDER]
                      [--program FILE] [--turns N] [--beside N] [--only WORD] [--short]
 
 The programs run in turns on each case, as a user runs them: under the scheduler and the priority
@@ -13,6 +13,7 @@ Their reports must have the same bytes.
     run      twarp run by 1, 2 and 4 workers, and with --workers left out, beside seq and the
              prototype of --prototype
     busy     the same beside N processes that keep processors busy (4, or --beside N)
+    options  what --lazy and --stats take of a run without them, in processor time
     growth   twarp seq on longer and longer runs, with --log and with checkpoints
 
 --peer and --prototype name folders that cargo builds (release, without network); what it makes goes
@@ -28,6 +29,7 @@ import filecmp
 import os
 import platform
 import re
+import resource
 import statistics
 import subprocess
 import sys
@@ -62,6 +64,14 @@ while os.getppid() == parent:
 """
 
 Words = Sequence[str]
+
+
+@dataclass(frozen=True)
+class Took:
+    """What one run of a program took: by the clock, and of all processors together."""
+
+    seconds: float
+    processor: float
 
 
 @dataclass
@@ -122,10 +132,11 @@ class Bench:
             file.write_text(workload.text(self.gen))
         return file
 
-    def run_once(self, words: Words, case: Path, output: Path) -> float:
-        """The seconds from the start of a program to its end; one that doesn't end is run again."""
+    def run_once(self, words: Words, case: Path, output: Path) -> Took:
+        """What a program takes from its start to its end; one that doesn't end is run again."""
         for _ in range(MOST_ENDED):
             with open(case, "rb") as source, open(output, "wb") as written:
+                before = processor_seconds()
                 begin = time.perf_counter()
                 with subprocess.Popen(
                     words, stdin=source, stdout=written, stderr=subprocess.PIPE
@@ -143,10 +154,12 @@ class Bench:
                 told = said.decode().strip()
                 sys.exit(f"{' '.join(words)} ends with status {child.returncode}: {told}")
             self.slowest = max(self.slowest, seconds)
-            return seconds
+            return Took(seconds, processor_seconds() - before)
         sys.exit(f"{' '.join(words)} did not end {MOST_ENDED} times in a row")
 
-    def in_turns(self, lines: Mapping[str, Words], case: Path) -> dict[str, Sample]:
+    def in_turns(
+        self, lines: Mapping[str, Words], case: Path, of_processors: bool = False
+    ) -> dict[str, Sample]:
         """Runs each line once in each turn, another one first each time; all have to write the same."""
         samples = {name: Sample() for name in lines}
         first, output = self.folder / "first", self.folder / "output"
@@ -156,8 +169,8 @@ class Bench:
             start = turn % len(names)
             for name in names[start:] + names[:start]:
                 is_first = not any(sample.seconds for sample in samples.values())
-                seconds = self.run_once(lines[name], case, first if is_first else output)
-                samples[name].seconds.append(seconds)
+                took = self.run_once(lines[name], case, first if is_first else output)
+                samples[name].seconds.append(took.processor if of_processors else took.seconds)
                 if not is_first and not filecmp.cmp(first, output, shallow=False):
                     sys.exit(f"{' '.join(lines[name])} writes another report of {case.name}")
         for name, sample in samples.items():
@@ -206,6 +219,12 @@ class Bench:
             rb"^router .* handled (\d+)", (self.folder / "first").read_bytes(), re.M
         )
         return sum(map(int, counts))
+
+
+def processor_seconds() -> float:
+    """What all programs have taken of the processors that were run and have ended."""
+    used = resource.getrusage(resource.RUSAGE_CHILDREN)
+    return used.ru_utime + used.ru_stime
 
 
 def processors() -> int:
@@ -316,6 +335,22 @@ def busy_table(bench: Bench) -> str:
         return run_table(bench)
 
 
+def options_table(bench: Bench) -> str:
+    rows = []
+    for workload in bench.chosen(FOR_RUN):
+        print(f"{workload.name} ({workload.options})", flush=True)
+        seq = seq_line(bench.asked.program, workload)
+        run = [bench.asked.program, "run", *workload.options.split(), "--workers"]
+        lines = {"seq": seq, "--stats": [*seq, "--stats"]}
+        for count in map(str, WORKERS):
+            lines |= {count: [*run, count], f"{count}, --lazy": [*run, count, "--lazy"]}
+        samples = bench.in_turns(lines, bench.case(workload), of_processors=True)
+        lazy = [samples[f"{count}, --lazy"].beside(samples[f"{count}"]) for count in WORKERS]
+        rows.append([workload.name, *lazy, samples["--stats"].beside(samples["seq"])])
+    heads = [f"`--lazy`, {count} worker{'s' * (count > 1)}" for count in WORKERS]
+    return table(["Case", *heads, "`seq --stats`"], rows)
+
+
 def growth_table(bench: Bench) -> str:
     rows = []
     for workload in bench.chosen(FOR_GROWTH):
@@ -342,6 +377,7 @@ TABLES: dict[str, Callable[[Bench], str]] = {
     "seq": seq_table,
     "run": run_table,
     "busy": busy_table,
+    "options": options_table,
     "growth": growth_table,
 }
 
