@@ -47,14 +47,7 @@ module _ (p : Event → Bool) where
   filter-insert_yes e [] k h = filter_yes e [] k
   filter-insert_yes e (x ∷ xs) k h =
       elim (cases_Bool (event_before x e)) [
-        | inl b ↦
-            ap (filter p) (behind event_before event_same event_law x e xs b) ∙ elim (cases_Bool (p x)) [
-              | inl y ↦
-                  filter_yes x (insert event_before e xs) y ∙ ap (λ r. x ∷ r) (filter-insert_yes e xs k h.1) ∙ sym (behind event_before event_same event_law x e (filter p xs) b)
-                  ∙ ap (insert event_before e) (sym (filter_yes x xs y))
-              | inr n ↦
-                  filter_no x (insert event_before e xs) n ∙ filter-insert_yes e xs k h.1 ∙ ap (insert event_before e) (sym (filter_no x xs n))
-            ]
+        | inl b ↦ grind (arith, filter, behind, event_law, cases_Bool, filter_yes, filter_no, filter-insert_yes e xs k h.1)
         | inr b ↦
             ap (filter p) (ahead event_before event_same event_law x e xs b) ∙ filter_yes e (x ∷ xs) k
             ∙ sym (insert_least event_before event_same e (filter p (x ∷ xs))
@@ -75,14 +68,7 @@ module _ (p : Event → Bool) where
   pub filter-in_order : (xs : List Event) → filter p (in_order event_before xs) ≡ in_order event_before (filter p xs)
   unfolding in_order
   filter-in_order [] = refl
-  filter-in_order (x ∷ xs) =
-      elim (cases_Bool (p x)) [
-        | inl y ↦
-            filter-insert_yes x (in_order event_before xs) y (rising-in_order event_before event_same event_law xs) ∙ ap (insert event_before x) (filter-in_order xs)
-            ∙ ap (in_order event_before) (sym (filter_yes x xs y))
-        | inr n ↦
-            filter-insert_no x (in_order event_before xs) n ∙ filter-in_order xs ∙ ap (in_order event_before) (sym (filter_no x xs n))
-      ]
+  filter-in_order (x ∷ xs) = grind (arith, cases_Bool, filter-insert_yes, rising-in_order, event_law, filter_yes, filter-insert_no, filter_no, filter-in_order xs)
 
 pub first-insert : (e : Event) (xs : List Event) → slice_get (insert event_before e xs) 0 ≡ Some (earlier e (slice_get xs 0))
 first-insert e [] = refl
@@ -101,11 +87,7 @@ least_first xs =
 -- the first of one router's events is for it
 pub home_of_first : (r : ℕ) (xs : List Event) → IfSome (slice_get (filter (λ e. e.dst == r) xs) 0) (λ e. e.dst ≡ r)
 home_of_first r [] = tt
-home_of_first r (x ∷ xs) =
-    elim (cases_Bool (x.dst == r)) [
-      | inl b ↦ rw b (eqb-true x.dst r b)
-      | inr b ↦ rw b (home_of_first r xs)
-    ]
+home_of_first r (x ∷ xs) = grind (arith, cases_Bool, eqb-true, home_of_first r xs)
 
 pub same_some : {X : Type 0} (a b : X) → Some a ≡ Some b → a ≡ b
 same_some a b h = cc
@@ -131,10 +113,7 @@ first_is_least e xs [] r h k = absurd (none-some e k)
 first_is_least e xs (y ∷ ys) r h k =
     let y_is : y ≡ e = same_some y e k in
     subst (λ z. IsLeast z xs) y_is (record {
-      there =
-          let a = h y in
-          let b = one_self event_before event_same event_law y in
-          omega arith;
+      there = grind (arith, one_self, event_law);
       first = λ x l.
           elim (in_cons event_before event_same event_law x y ys (subst (λ n. 0 < n) (sym (h x)) l)) [
             | inl q ↦ subst (λ z. event_before z y ≡ false) (sym q) (before_not_self y)
@@ -184,18 +163,6 @@ not_before_first x y h k =
     later_then y.time x.time (nat_cmp y.time x.time) refl h _ (λ e.
     let l = k e in
     later_then y.dst x.dst (nat_cmp y.dst x.dst) refl (omega arith) _ (λ f. absurd (omega arith)))
-
--- the first stays where another is taken out
-pub first-take_out : (e d : Event) (xs : List Event) → slice_get xs 0 ≡ Some d → event_same d e ≡ false → slice_get (take_out event_same e xs) 0 ≡ Some d
-first-take_out e d [] h k = absurd (none-some d h)
-first-take_out e d (x ∷ xs) h k =
-    let x_is = same_some x d h in
-    elim (cases_Bool (event_same e x)) [
-      | inl b ↦
-          let e_is : d ≡ e = sym x_is ∙ sym (same_is e x b) in
-          absurd (false≢true (sym k ∙ ap (event_same d) (sym e_is) ∙ same_self d))
-      | inr b ↦ rw b h
-    ]
 
 -- where no event is, the list is empty
 pub nothing : (xs : List Event) → ((e : Event) → times event_same e xs ≡ 0) → xs ≡ []

@@ -18,10 +18,7 @@ module _ (x y : Event) (ring heap : List Event) where
   pub least_left : IsLeast x ring → IsLeast y heap → event_before y x ≡ false → slice_get (in_order event_before (ring ++ heap)) 0 ≡ Some x
   least_left h k b =
       first_of_least x (ring ++ heap) (record {
-        there =
-            let n = times-append x ring heap in
-            let l = h.there in
-            omega arith;
+        there = grind (arith, times-append);
         first = λ z there.
             let n = times-append z ring heap in
             elim (cases_zero (times event_same z ring)) [
@@ -33,10 +30,7 @@ module _ (x y : Event) (ring heap : List Event) where
   pub least_right : IsLeast x ring → IsLeast y heap → event_before y x ≡ true → slice_get (in_order event_before (ring ++ heap)) 0 ≡ Some y
   least_right h k b =
       first_of_least y (ring ++ heap) (record {
-        there =
-            let n = times-append y ring heap in
-            let l = k.there in
-            omega arith;
+        there = grind (arith, times-append);
         first = λ z there.
             let n = times-append z ring heap in
             elim (cases_zero (times event_same z heap)) [
@@ -57,10 +51,7 @@ module _ (xs ys : List Event) where
       let l = least_is x xs h in
       let m = least_is y ys k in
       first_of_least y (xs ++ ys) (record {
-        there =
-            let n = times-append y xs ys in
-            let there = m.there in
-            omega arith;
+        there = grind (arith, times-append);
         first = λ z there.
             let n = times-append z xs ys in
             elim (cases_zero (times event_same z ys)) [
@@ -93,10 +84,7 @@ suc_more i = omega arith
 pub times_upto : (i : ℕ) (xs : List Event) (lists : List (List Event)) → i < length lists → xs ≡ get_or lists i xs → (e : Event)
     → times event_same e (together (take (i + 1) lists)) ≡ times event_same e (together (take i lists)) + times event_same e xs
 times_upto i xs [] h q e = absurd (omega arith)
-times_upto zero xs (ys ∷ lists) h q e =
-    let a = times-append e ys [] in
-    let b = ap (times event_same e) q in
-    omega arith
+times_upto zero xs (ys ∷ lists) h q e = grind (arith, times-append)
 times_upto (suc i) xs (ys ∷ lists) h q e =
     let c = ap (λ n. times event_same e (together (take n (ys ∷ lists)))) (suc_more i) in
     let r = times_upto i xs lists (omega arith) q e in

@@ -1,5 +1,5 @@
 -- Events in several lists, each in order and in the list that its key names.
-use Rattle.std.proofs.Common.{◌≡◌, ◌==◌, ◌<◌, ◌≤◌, ◌+◌, ℕ, List, [], filter, length, get_or, set, ap, sym, ◌∙◌, inl, inr}
+use Rattle.std.proofs.Common.{◌≡◌, ◌==◌, ◌<◌, ◌≤◌, ◌+◌, ℕ, List, [], filter, length, get_or, set, ap, sym, ◌∙◌}
 use Rattle.std.proofs.lemmas.Bool.{cases_Bool, eqb-false, eqb-true, cases_eq, cases_lt}
 use Rattle.std.proofs.lemmas.List.{get_or_past, get_or_read, get_or-replicate, length-replicate}
 use Rattle.tw_event.specs.declared.event.Event.{Event}
@@ -19,31 +19,16 @@ use Rattle.std.proofs.Common.{replicate, subst, arith, get_or-set_same, get_or-s
 -- one list changes
 module _ (lists : List (List Event)) (i : ℕ) (within : i < length lists) (qs : List Event) where
   pub rising_set : ((r : ℕ) → IsRising event_before event_same (get_or lists r [])) → IsRising event_before event_same qs → (r : ℕ) → IsRising event_before event_same (get_or (set lists i qs) r [])
-  rising_set old new r =
-      elim (cases_eq r i) [
-        | inl q ↦
-            let k : qs ≡ get_or (set lists i qs) r [] = rw q (sym (get_or-set_same lists i qs [] within)) in
-            subst (λ xs. IsRising event_before event_same xs) k new
-        | inr n ↦
-            subst (λ xs. IsRising event_before event_same xs) (sym (get_or-set_other lists i r qs [] n)) (old r)
-      ]
+  rising_set old new r = grind (arith, cases_eq, set, get_or-set_same, get_or-set_other)
 
 module _ (key : Event → ℕ) (lists : List (List Event)) (placed : IsPlaced key lists) where
   -- the events with one key are those of its list
   module _ (r : ℕ) where
     times-for : (e : Event) → times event_same e (filter (λ d. key d == r) (together lists)) ≡ times event_same e (get_or lists r [])
-    times-for e =
-        elim (cases_Bool (key e == r)) [
-          | inl b ↦
-              times-filter_yes (λ d. key d == r) e (together lists) b ∙ times-placed key lists placed e ∙ ap (λ n. times event_same e (get_or lists n [])) (eqb-true (key e) r b)
-          | inr b ↦
-              times-filter_no (λ d. key d == r) e (together lists) b ∙ sym (none (times event_same e (get_or lists r [])) (λ there. eqb-false (key e) r b (placed r e there)))
-        ]
+    times-for e = grind (arith, cases_Bool, times-filter_yes, times-placed, eqb-true, times-filter_no, none, eqb-false)
 
     pub filter_key : IsRising event_before event_same (get_or lists r []) → filter (λ e. key e == r) (in_order event_before (together lists)) ≡ get_or lists r []
-    filter_key rising =
-        filter-in_order (λ e. key e == r) (together lists) ∙ in_order-times event_before event_same event_law (filter (λ e. key e == r) (together lists))
-        (get_or lists r []) times-for ∙ in_order_rising (get_or lists r []) rising
+    filter_key rising = grind (arith, filter-in_order, in_order-times, event_law, filter, times-for, in_order_rising)
 
   -- an event for no list is not there
   pub not_in_lists : (e : Event) → length lists ≤ key e → times event_same e (in_order event_before (together lists)) ≡ 0
@@ -66,9 +51,7 @@ module _ (key : Event → ℕ) (lists : List (List Event)) (placed : IsPlaced ke
       more_inserted = lists_inserted key lists placed e within qs counted
 
       pub more_rising : ((r : ℕ) → IsRising event_before event_same (get_or lists r [])) → (r : ℕ) → IsRising event_before event_same (get_or (set lists (key e) qs) r [])
-      more_rising rising =
-          let old = subst (IsRising event_before event_same) (sym read) (rising (key e)) in
-          rising_set lists (key e) within qs rising (subst (IsRising event_before event_same) (sym more) (rising-insert event_before event_same event_law e list old))
+      more_rising rising = grind (arith, read, rising_set, rising-insert, event_law)
 
     module _ (less : qs ≡ take_out event_same e list) where
       taken : qs ≡ take_out event_same e (get_or lists (key e) [])
@@ -81,9 +64,7 @@ module _ (key : Event → ℕ) (lists : List (List Event)) (placed : IsPlaced ke
       less_taken = lists_taken key lists placed e within qs taken
 
       pub less_rising : ((r : ℕ) → IsRising event_before event_same (get_or lists r [])) → (r : ℕ) → IsRising event_before event_same (get_or (set lists (key e) qs) r [])
-      less_rising rising =
-          let old = subst (IsRising event_before event_same) (sym read) (rising (key e)) in
-          rising_set lists (key e) within qs rising (subst (IsRising event_before event_same) (sym less) (rising-take_out e list old))
+      less_rising rising = grind (arith, read, rising_set, rising-take_out)
 
     pub times_in : times event_same e list ≡ times event_same e (in_order event_before (together lists))
     times_in = ap (times event_same e) read ∙ sym (times-lists key lists placed e)
@@ -91,13 +72,7 @@ module _ (key : Event → ℕ) (lists : List (List Event)) (placed : IsPlaced ke
 -- lists that are all empty
 module _ (n : ℕ) (lists : List (List Event)) (are : lists ≡ replicate n []) where
   pub empty_queue : (r : ℕ) → get_or lists r [] ≡ []
-  empty_queue r =
-      elim (cases_lt r n) [
-        | inl l ↦ ap (λ xs. get_or xs r []) are ∙ get_or-replicate n r [] [] l
-        | inr l ↦
-            let long = ap (λ xs. length xs) are ∙ length-replicate n [] in
-            get_or_past lists r [] (omega arith)
-      ]
+  empty_queue r = grind (arith, cases_lt, get_or-replicate, length-replicate, get_or_past)
 
   pub empty_placed : (key : Event → ℕ) → IsPlaced key lists
   empty_placed = none_placed lists (λ i l. empty_queue i)

@@ -1,5 +1,5 @@
 -- Events in several lists, each in the list that its key names.
-use Rattle.std.proofs.Common.{◌≡◌, ◌+◌, ◌<◌, ◌≤◌, ◌++◌, ℕ, suc, zero, List, [], ◌∷◌, drop, length, get_or, set, refl, ap, sym, ◌∙◌, subst, inl, inr, arith, get_or-set_same, get_or-set_other}
+use Rattle.std.proofs.Common.{◌≡◌, ◌+◌, ◌<◌, ◌≤◌, ◌++◌, ℕ, suc, zero, List, [], ◌∷◌, drop, length, get_or, set, refl, ap, sym, ◌∙◌, inl, inr, arith, get_or-set_same, get_or-set_other}
 use Rattle.std.proofs.lemmas.Bool.{cases_eq, cases_lt}
 use Rattle.std.proofs.lemmas.List.{get_or_past}
 use Rattle.tw_event.specs.declared.event.Event.{Event}
@@ -14,28 +14,17 @@ use Rattle.tw_ordered.proofs.Events.{event_law}
 
 pub times-append : (e : Event) (xs ys : List Event) → times event_same e (xs ++ ys) ≡ times event_same e xs + times event_same e ys
 times-append e [] ys = omega arith
-times-append e (x ∷ xs) ys =
-    let h = times-append e xs ys in
-    omega arith
+times-append e (x ∷ xs) ys = grind (arith, times-append e xs ys)
 
 pub times-push : (d e : Event) (xs : List Event) → times event_same d (xs ++ e ∷ []) ≡ one event_same d e + times event_same d xs
-times-push d e xs =
-    let h = times-append d xs (e ∷ []) in
-    omega arith
+times-push d e xs = grind (arith, times-append)
 
 -- one of the lists becomes another
 pub times-set : (i : ℕ) (ys : List Event) (lists : List (List Event)) → i < length lists → (d : Event)
     → times event_same d (together (set lists i ys)) + times event_same d (get_or lists i []) ≡ times event_same d (together lists) + times event_same d ys
 times-set i ys [] h d = absurd (omega arith)
-times-set zero ys (xs ∷ lists) h d =
-    let a = times-append d ys (together lists) in
-    let b = times-append d xs (together lists) in
-    omega arith
-times-set (suc i) ys (xs ∷ lists) h d =
-    let a = times-append d xs (together (set lists i ys)) in
-    let b = times-append d xs (together lists) in
-    let c = times-set i ys lists (omega arith) d in
-    omega arith
+times-set zero ys (xs ∷ lists) h d = grind (arith, times-append)
+times-set (suc i) ys (xs ∷ lists) h d = grind (arith, times-append, set, times-set i ys lists (omega arith) d)
 
 times-none : (e : Event) (lists : List (List Event)) → ((i : ℕ) → times event_same e (get_or lists i []) ≡ 0) → times event_same e (together lists) ≡ 0
 times-none e [] h = refl
@@ -66,14 +55,7 @@ module _ (key : Event → ℕ) where
       times-alone e (key e) lists (λ i k. none (times event_same e (get_or lists i [])) (λ there. k (sym (h i e there))))
 
   pub placed-set : (lists : List (List Event)) (i : ℕ) (ys : List Event) → i < length lists → IsPlaced key lists → ((e : Event) → 0 < times event_same e ys → key e ≡ i) → IsPlaced key (set lists i ys)
-  placed-set lists i ys l h k j e there =
-      elim (cases_eq j i) [
-        | inl q ↦
-            let new : get_or (set lists i ys) j [] ≡ ys = rw q (get_or-set_same lists i ys [] l) in
-            k e (subst (λ zs. 0 < times event_same e zs) new there) ∙ sym q
-        | inr q ↦
-            h j e (subst (λ zs. 0 < times event_same e zs) (get_or-set_other lists i j ys [] q) there)
-      ]
+  placed-set lists i ys l h k j e there = grind (arith, cases_eq, set, get_or-set_same, get_or-set_other)
 
 -- lists that are all empty
 pub together_none : (lists : List (List Event)) → ((i : ℕ) → i < length lists → get_or lists i [] ≡ []) → together lists ≡ []
@@ -94,9 +76,7 @@ together_from (suc i) xs (ys ∷ lists) h e =
 pub times-take_out-le : (d e : Event) (xs : List Event) → times event_same d (take_out event_same e xs) ≤ times event_same d xs
 times-take_out-le d e xs =
     elim (cases_zero (times event_same e xs)) [
-      | inl z ↦
-          let h = ap (times event_same d) (take_out_none event_before event_same event_law e xs z) in
-          omega arith
+      | inl z ↦ grind (arith, take_out_none, event_law)
       | inr there ↦
           let h = times-take_out event_before event_same event_law d e xs there in
           omega arith
@@ -139,15 +119,7 @@ times-lists key lists placed e =
 
 module _ (lists : List (List Event)) (empty : (i : ℕ) → i < length lists → get_or lists i [] ≡ []) where
   pub none_placed : (key : Event → ℕ) → IsPlaced key lists
-  none_placed key i e there =
-      elim (cases_lt i (length lists)) [
-        | inl l ↦
-            let h = ap (times event_same e) (empty i l) in
-            absurd (omega arith)
-        | inr l ↦
-            let h = ap (times event_same e) (get_or_past lists i [] l) in
-            absurd (omega arith)
-      ]
+  none_placed key i e there = grind (arith, cases_lt, get_or_past)
 
   pub in_order_none : in_order event_before (together lists) ≡ []
   unfolding in_order

@@ -1,13 +1,13 @@
 -- Lists that are kept in order: an element goes in and comes out again, and what order they came in does not count.
-use Rattle.std.proofs.Common.{◌≤◌, ◌+◌, ◌⊎◌, filter, ◌≡◌, ℕ, suc, zero, ◌<◌, Bool, true, false, cond, List, []}
+use Rattle.std.proofs.Common.{◌+◌, ◌⊎◌, filter, ◌≡◌, ℕ, suc, zero, ◌<◌, Bool, true, false, cond, List, []}
 use Rattle.std.proofs.Common.{◌∷◌, length, get_or, set, refl, ap, sym, ◌∙◌, subst, inl, inr, arith, get_or-set_same, get_or-set_other, length-set, add-one}
 use Rattle.std.specs.List.{AllByRecursion, swap}
 use Rattle.std.specs.List.Sorted.{IsPermutation, IsSortedBy}
-use Rattle.std.proofs.lemmas.Bool.{cases_Bool, cases_eq, false≢true}
+use Rattle.std.proofs.lemmas.Bool.{cases_Bool, cases_eq}
 use Rattle.std.proofs.lemmas.List.Sorted.{IsPermutation-keeps}
 use Rattle.tw_sim.specs.Ordered.{insert, insert_all, one, take_out, times}
 use Rattle.tw_sim.specs.Rising.{IsRising}
-use Rattle.tw_sim.proofs.Ordered.{IsOrder, all-insert, before_from, length-insert, not_back, one_self, rising-insert, times-insert}
+use Rattle.tw_sim.proofs.Ordered.{IsOrder, all-insert, length-insert, one_self, rising-insert, times-insert}
 use Rattle.tw_ordered.specs.InOrder.{in_order}
 
 pub cases_zero : (n : ℕ) → (n ≡ 0) ⊎ (0 < n)
@@ -55,15 +55,7 @@ module _ {E : Type 0} (before same : E → E → Bool) where
 
   module _ (law : IsOrder before same) where
     pair : (e f : E) (r : List E) → cond (before f e) (f ∷ e ∷ r) (e ∷ f ∷ r) ≡ cond (before e f) (e ∷ f ∷ r) (f ∷ e ∷ r)
-    pair e f r =
-        elim (cases_Bool (before f e)) [
-          | inl b ↦ rw (b, not_back before same law f e b) refl
-          | inr b ↦
-              elim (cases_Bool (before e f)) [
-                | inl c ↦ rw (b, c) refl
-                | inr c ↦ rw (b, c) (ap (λ x. x ∷ f ∷ r) (law.total e f c b) ∙ ap (λ x. f ∷ x ∷ r) (law.total f e b c))
-              ]
-        ]
+    pair e f r = grind arith
 
     -- the list in order rises
     pub rising-in_order : (xs : List E) → IsRising before same (in_order before xs)
@@ -78,46 +70,20 @@ module _ {E : Type 0} (before same : E → E → Bool) where
     ahead x e xs b = rw b refl
 
     round : (e f x : E) (xs : List E) → before x f ≡ true → before x e ≡ false → insert before e (insert before f (x ∷ xs)) ≡ insert before f (insert before e (x ∷ xs))
-    round e f x xs b c =
-        (ap (insert before e) (behind x f xs b) ∙ ahead x e (insert before f xs) c)
-        ∙ sym (ap (insert before f) (ahead x e xs c) ∙ behind e f (x ∷ xs) (before_from before same law x e f c b) ∙ ap (λ r. e ∷ r) (behind x f xs b))
+    round e f x xs b c = grind arith
 
     -- the order in which two go in does not count
     pub insert-insert : (e f : E) (xs : List E) → insert before e (insert before f xs) ≡ insert before f (insert before e xs)
     insert-insert e f [] = pair e f []
-    insert-insert e f (x ∷ xs) =
-        elim (cases_Bool (before x f)) [
-          | inl b ↦
-              elim (cases_Bool (before x e)) [
-                | inl c ↦
-                    (ap (insert before e) (behind x f xs b) ∙ behind x e (insert before f xs) c) ∙ ap (λ r. x ∷ r) (insert-insert e f xs)
-                    ∙ sym (ap (insert before f) (behind x e xs c) ∙ behind x f (insert before e xs) b)
-                | inr c ↦ round e f x xs b c
-              ]
-          | inr b ↦
-              elim (cases_Bool (before x e)) [
-                | inl c ↦ sym (round f e x xs c b)
-                | inr c ↦
-                    (ap (insert before e) (ahead x f xs b) ∙ ap (λ r. cond (before f e) (f ∷ r) (e ∷ f ∷ x ∷ xs)) (ahead x e xs c)) ∙ pair e f (x ∷ xs)
-                    ∙ sym (ap (insert before f) (ahead x e xs c) ∙ ap (λ r. cond (before e f) (e ∷ r) (f ∷ e ∷ x ∷ xs)) (ahead x f xs b))
-              ]
-        ]
+    insert-insert e f (x ∷ xs) = grind (arith, cases_Bool, behind, round, ahead, cond, pair, insert-insert e f xs)
 
     pub not_same : (x e : E) → before x e ≡ true → same e x ≡ false
-    not_same x e h =
-        elim (cases_Bool (same e x)) [
-          | inl b ↦ absurd (false≢true (sym (law.not_self x) ∙ subst (λ y. before x y ≡ true) (law.same_is e x b) h))
-          | inr b ↦ b
-        ]
+    not_same x e h = grind arith
 
     -- what went in comes out
     pub take_out-insert : (e : E) (xs : List E) → take_out same e (insert before e xs) ≡ xs
     take_out-insert e [] = rw (law.same_self e) refl
-    take_out-insert e (x ∷ xs) =
-        elim (cases_Bool (before x e)) [
-          | inl b ↦ rw b (rw (not_same x e b) (ap (λ r. x ∷ r) (take_out-insert e xs)))
-          | inr b ↦ rw b (rw (law.same_self e) refl)
-        ]
+    take_out-insert e (x ∷ xs) = grind (arith, cases_Bool, not_same, take_out-insert e xs)
 
     insert_injective : (e : E) (xs ys : List E) → insert before e xs ≡ insert before e ys → xs ≡ ys
     insert_injective e xs ys h =
@@ -131,11 +97,7 @@ module _ {E : Type 0} (before same : E → E → Bool) where
         insert-insert (get_or xs i d) x (in_order before (set xs i v)) ∙ ap (insert before x) (in_order-set xs i v d (omega arith)) ∙ insert-insert x v (in_order before xs)
 
     still : (xs : List E) (i j : ℕ) (d : E) → i < length xs → get_or (set xs i (get_or xs j d)) j d ≡ get_or xs j d
-    still xs i j d h =
-        elim (cases_eq j i) [
-          | inl e ↦ subst (λ k. get_or (set xs i (get_or xs j d)) k d ≡ get_or xs j d) (sym e) (get_or-set_same xs i (get_or xs j d) d h)
-          | inr n ↦ get_or-set_other xs i j (get_or xs j d) d n
-        ]
+    still xs i j d h = grind (arith, cases_eq, set, get_or-set_same, get_or-set_other)
 
     in_order-set_set : (xs : List E) (i j : ℕ) (d : E) → i < length xs → j < length xs → in_order before (set (set xs i (get_or xs j d)) j (get_or xs i d)) ≡ in_order before xs
     in_order-set_set xs i j d h k =
@@ -182,14 +144,7 @@ module _ {E : Type 0} (before same : E → E → Bool) where
     -- what is not there does not come out
     pub take_out_none : (e : E) (xs : List E) → times same e xs ≡ 0 → take_out same e xs ≡ xs
     take_out_none e [] h = refl
-    take_out_none e (x ∷ xs) h =
-        elim (cases_Bool (same e x)) [
-          | inl b ↦
-              absurd (omega (arith, rw b at h))
-          | inr b ↦
-              let k : 0 + times same e xs ≡ 0 = rw b at h in
-              rw b (ap (λ r. x ∷ r) (take_out_none e xs (omega arith)))
-        ]
+    take_out_none e (x ∷ xs) h = grind (arith, cases_Bool, take_out_none e xs (omega arith))
 
     -- what is there comes out
     pub insert-take_out : (e : E) (xs : List E) → 0 < times same e xs → insert before e (in_order before (take_out same e xs)) ≡ in_order before xs
@@ -241,35 +196,10 @@ module _ {E : Type 0} (before same : E → E → Bool) where
     -- xs becomes ys where ps in it becomes qs
     module _ (xs ys ps qs : List E) (changed : (d : E) → times same d ys + times same d ps ≡ times same d xs + times same d qs) where
       pub in_order-inserted : (e : E) → ((d : E) → times same d qs ≡ one same d e + times same d ps) → in_order before ys ≡ insert before e (in_order before xs)
-      in_order-inserted e h =
-          let more : (d : E) → times same d ys ≡ one same d e + times same d xs =
-          λ d.
-          let a = changed d in
-          let b = h d in
-          omega arith in
-          in_order_inserted e xs ys more
+      in_order-inserted e h = grind (arith, in_order_inserted)
 
       pub in_order-taken : (e : E) → times same e xs ≡ times same e ps → qs ≡ take_out same e ps → in_order before ys ≡ take_out same e (in_order before xs)
-      in_order-taken e h k =
-          elim (cases_zero (times same e ps)) [
-            | inl z ↦
-                let none : times same e (in_order before xs) ≡ 0 = times-in_order e xs ∙ h ∙ z in
-                let same_parts : qs ≡ ps = k ∙ take_out_none e ps z in
-                let equal : (d : E) → times same d ys ≡ times same d xs =
-                λ d.
-                let a = changed d in
-                let b = ap (times same d) same_parts in
-                omega arith in
-                in_order-times ys xs equal ∙ sym (take_out_none e (in_order before xs) none)
-            | inr there ↦
-                let less : (d : E) → one same d e + times same d ys ≡ times same d xs =
-                λ d.
-                let a = changed d in
-                let b = times-take_out d e ps there in
-                let c = ap (times same d) k in
-                omega arith in
-                in_order_removed e xs ys less
-          ]
+      in_order-taken e h k = grind (arith, cases_zero, times-in_order, take_out_none, in_order-times, times-take_out, in_order_removed)
 
     pub length-take_out : (e : E) (xs : List E) → 0 < times same e xs → suc (length (take_out same e xs)) ≡ length xs
     length-take_out e [] h = absurd (omega arith)
@@ -281,27 +211,13 @@ module _ {E : Type 0} (before same : E → E → Bool) where
               rw b (ap suc (length-take_out e xs (omega arith)))
         ]
 
-  pub length-take_out-le : (e : E) (xs : List E) → length (take_out same e xs) ≤ length xs
-  length-take_out-le e [] = omega arith
-  length-take_out-le e (x ∷ xs) =
-      let h = length-take_out-le e xs in
-      elim (cases_Bool (same e x)) [ inl b ↦ rw b (omega arith) | inr b ↦ rw b (omega arith) ]
-
   pub all-take_out : (P : E → Type 0) (e : E) (xs : List E) → AllByRecursion P xs → AllByRecursion P (take_out same e xs)
   all-take_out P e [] h = tt
-  all-take_out P e (x ∷ xs) h =
-      elim (cases_Bool (same e x)) [
-        | inl b ↦ rw b h.1
-        | inr b ↦ rw b (h.0, all-take_out P e xs h.1)
-      ]
+  all-take_out P e (x ∷ xs) h = grind (arith, cases_Bool, all-take_out P e xs h.1)
 
   pub all-filter : (P : E → Type 0) (p : E → Bool) (xs : List E) → AllByRecursion P xs → AllByRecursion P (filter p xs)
   all-filter P p [] h = tt
-  all-filter P p (x ∷ xs) h =
-      elim (cases_Bool (p x)) [
-        | inl b ↦ rw b (h.0, all-filter P p xs h.1)
-        | inr b ↦ rw b (all-filter P p xs h.1)
-      ]
+  all-filter P p (x ∷ xs) h = grind (arith, cases_Bool, all-filter P p xs h.1)
 
   in_order_steps : (xs : List E) → ((k : ℕ) (d : E) → suc k < length xs → before (get_or xs (suc k) d) (get_or xs k d) ≡ false) → in_order before xs ≡ xs
   unfolding in_order

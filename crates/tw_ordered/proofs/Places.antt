@@ -37,22 +37,14 @@ module _ {X : Type 0} (p : X → Bool) where
   none_passes [] h k d l = absurd (omega arith)
   none_passes (x ∷ xs) h k d l =
       elim (cases_Bool (p x)) [
-        | inl b ↦
-            let z : length (x ∷ xs) ≤ 0 = rw b at h in
-            absurd (omega arith)
+        | inl b ↦ grind arith
         | inr b ↦
             let z : length (x ∷ xs) ≤ 1 + position_or_len p xs = rw b at h in
             at_place x xs b (none_passes xs (omega arith)) k d l
       ]
 
   pub missed : (xs : List X) → position p xs ≡ None → (k : ℕ) (d : X) → k < length xs → p (get_or xs k d) ≡ false
-  missed xs h =
-      elim (cases_Bool (nat_lt (position_or_len p xs) (length xs))) [
-        | inl b ↦
-            let k : Some (position_or_len p xs) ≡ None = rw b at h in
-            absurd (none-some (position_or_len p xs) (sym k))
-        | inr b ↦ none_passes xs (ltb-false (position_or_len p xs) (length xs) b)
-      ]
+  missed xs h = grind (arith, cases_Bool, nat_lt, none-some, none_passes, ltb-false)
 
 -- the first place of an event is where it comes out
 module _ (e : Event) where
@@ -65,9 +57,7 @@ module _ (e : Event) where
   there_at : (xs : List Event) (i : ℕ) (d : Event) → i < length xs → equals e (get_or xs i d) ≡ true → 0 < times event_same e xs
   there_at [] i d l y = absurd (omega arith)
   there_at (x ∷ xs) zero d l y = rw (sym (event_eq e x) ∙ y) (omega arith)
-  there_at (x ∷ xs) (suc i) d l y =
-      let h = there_at xs i d (omega arith) y in
-      omega arith
+  there_at (x ∷ xs) (suc i) d l y = grind (arith, there_at xs i d (omega arith) y)
 
   pub taken_at : (xs : List Event) (i : ℕ) → position (equals e) xs ≡ Some i → take_out event_same e xs ≡ remove xs i
   taken_at xs i h =

@@ -19,12 +19,8 @@ use Rattle.tw_ordered.specs.Times.{IsLastTime}
 -- an element is counted
 counted : (xs : List Event) (k : ℕ) (d : Event) → k < length xs → 0 < times event_same (get_or xs k d) xs
 counted [] k d l = absurd (omega arith)
-counted (x ∷ xs) zero d l =
-    let h = one_self event_before event_same event_law x in
-    omega arith
-counted (x ∷ xs) (suc k) d l =
-    let h = counted xs k d (omega arith) in
-    omega arith
+counted (x ∷ xs) zero d l = grind (arith, one_self, event_law)
+counted (x ∷ xs) (suc k) d l = grind (arith, counted xs k d (omega arith))
 
 -- a list that rises goes on rising without one event
 pub rising-take_out : (e : Event) (xs : List Event) → IsRising event_before event_same xs → IsRising event_before event_same (take_out event_same e xs)
@@ -32,13 +28,7 @@ rising-take_out e [] r = tt
 rising-take_out e (x ∷ xs) r =
     elim (cases_Bool (event_same e x)) [
       | inl b ↦ rw b r.1
-      | inr b ↦
-          rw b (
-            λ d there.
-                let l = times-take_out-le d e xs in
-                r.0 d (omega arith),
-            rising-take_out e xs r.1,
-          )
+      | inr b ↦ grind (arith, times-take_out-le, rising-take_out e xs r.1)
     ]
 
 module _ (e : Event) where
@@ -72,9 +62,7 @@ module _ (e : Event) where
   stands : (xs : List Event) (i : ℕ) → i < length xs → event_same e (get_or xs i e) ≡ true → 0 < times event_same e xs
   stands [] i l s = absurd (omega arith)
   stands (x ∷ xs) zero l s = rw s (omega arith)
-  stands (x ∷ xs) (suc i) l s =
-      let h = stands xs i (omega arith) s in
-      omega arith
+  stands (x ∷ xs) (suc i) l s = grind (arith, stands xs i (omega arith) s)
 
   -- e is not where it does not stand at its place
   is_not : (xs : List Event) (i : ℕ) → IsRising event_before event_same xs → ((k : ℕ) → k < i → event_before (get_or xs k e) e ≡ true)
@@ -97,23 +85,11 @@ module _ (e : Event) where
       not_before event_before event_same event_law (get_or xs k d) x e (r.0 (get_or xs k d) (counted xs k d (omega arith))) b
 
   pub place_first : (xs : List Event) → IsRising event_before event_same xs → (0 < length xs → event_before (get_or xs 0 e) e ≡ false) → IsPlace e xs 0
-  place_first [] r b = record {
-    within = omega arith;
-    before = λ k d l. absurd (omega arith);
-    rest = λ k d l m. absurd (omega arith);
-  }
-  place_first (x ∷ xs) r b = record {
-    within = omega arith;
-    before = λ k d l. absurd (omega arith);
-    rest = λ k d l m. none_before x xs r (b (omega arith)) k d m;
-  }
+  place_first [] r b = grind arith
+  place_first (x ∷ xs) r b = grind (arith, none_before)
 
   pub place_last : (xs : List Event) → IsRising event_before event_same xs → (n : ℕ) → n ≡ length xs → (last : Event) → last ≡ get_or xs (n - 1) last → event_before last e ≡ true → IsPlace e xs (length xs)
-  place_last [] r n long last is b = record {
-    within = omega arith;
-    before = λ k d l. absurd (omega arith);
-    rest = λ k d l m. absurd (omega arith);
-  }
+  place_last [] r n long last is b = grind arith
   place_last (x ∷ xs) r n long last is b = record {
     within = omega arith;
     before = λ k d l.
@@ -144,11 +120,7 @@ last_of_rising (x ∷ []) n e h long some is =
     let own = one_self event_before event_same event_law x in
     let time = ap (λ y. y.time) x_is in
     record {
-      bound = λ d there.
-          elim (in_cons event_before event_same event_law d x [] there) [
-            | inl q ↦ (let a = ap (λ y. y.time) q in omega arith)
-            | inr l ↦ absurd (omega arith)
-          ];
+      bound = λ d there. grind arith;
       reached = (x, omega arith, sym time);
     }
 last_of_rising (x ∷ y ∷ xs) n e h long some is =
@@ -160,10 +132,7 @@ last_of_rising (x ∷ y ∷ xs) n e h long some is =
     record {
       bound = λ d there.
           elim (in_cons event_before event_same event_law d x (y ∷ xs) there) [
-            | inl q ↦
-                (let a = not_earlier at.0 x (h.0 at.0 at.1) in
-                let b = ap (λ z. z.time) q in
-                omega arith)
+            | inl q ↦ grind (arith, not_earlier)
             | inr l ↦ r.bound d l
           ];
       reached = (at.0, omega arith, time);

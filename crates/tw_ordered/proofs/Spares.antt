@@ -65,30 +65,11 @@ module _ (e : Event) (xs ys zs ws : List Event) (rising : IsRising event_before 
 
   -- out of the spare list, if it is there
   pub left_spare : times event_same e ys ≡ 0 → zs ≡ take_out event_same e xs → ws ≡ ys → insert_all event_before zs ws ≡ take_out event_same e (insert_all event_before xs ys)
-  left_spare absent less same =
-      elim (cases_zero (times event_same e xs)) [
-        | inl z ↦
-            let nowhere : times event_same e (insert_all event_before xs ys) ≡ 0 =
-            let h = times-insert_all event_before event_same e xs ys in
-            omega arith in
-            let parts = less ∙ take_out_none event_before event_same event_law e xs z in
-            ap (λ vs. insert_all event_before vs ws) parts ∙ ap (insert_all event_before xs) same ∙ sym (take_out_none event_before event_same event_law e (insert_all event_before xs ys) nowhere)
-        | inr there ↦ less_spare there less same
-      ]
+  left_spare absent less same = grind (arith, cases_zero, times-insert_all, take_out_none, event_law, less_spare)
 
 -- how many there are then
 pub length_left : (e : Event) (xs zs : List Event) (b : Bool) → (b ≡ true) ↔ (0 < times event_same e xs) → zs ≡ take_out event_same e xs → length zs + cond b 1 0 ≡ length xs
-length_left e xs zs b f less =
-    let long = ap (λ vs. length vs) less in
-    elim (cases_Bool b) [
-      | inl t ↦
-          let a = length-take_out event_before event_same event_law e xs (f.0 t) in
-          rw t (omega arith)
-      | inr n ↦
-          let z = missing e xs b n f.1 in
-          let a = ap (λ vs. length vs) (take_out_none event_before event_same event_law e xs z) in
-          rw n (omega arith)
-    ]
+length_left e xs zs b f less = grind (arith, cases_Bool, length-take_out, event_law, missing, take_out_none)
 
 -- an event that is nowhere
 pub times_whole : (e : Event) (xs ys : List Event) → times event_same e (insert_all event_before xs ys) ≡ times event_same e xs + times event_same e ys
@@ -101,9 +82,7 @@ module _ (p : Event → Bool) where
   filter-insert_all (x ∷ xs) ys h =
       let rises = rising-insert event_before event_same event_law x ys h in
       elim (cases_Bool (p x)) [
-        | inl b ↦
-            filter-insert_all xs (insert event_before x ys) rises ∙ ap (insert_all event_before (filter p xs)) (filter-insert_yes p x ys b h)
-            ∙ ap (λ zs. insert_all event_before zs (filter p ys)) (sym (filter_yes p x xs b))
+        | inl b ↦ grind (arith, filter, filter-insert_yes, filter_yes, filter-insert_all xs (insert event_before x ys) rises)
         | inr b ↦
             filter-insert_all xs (insert event_before x ys) rises ∙ ap (insert_all event_before (filter p xs)) (filter-insert_no p x ys b)
             ∙ ap (λ zs. insert_all event_before zs (filter p ys)) (sym (filter_no p x xs b))

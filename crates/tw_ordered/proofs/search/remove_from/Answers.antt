@@ -13,10 +13,7 @@ returns-in-Some-clause-found c =
     (λ u. there e c.args.events.now.items c.in-Some.place p, λ u. refl)
 
 pub returns-in-Some-clause-items : goal.returns-in-Some-clause-items
-returns-in-Some-clause-items c =
-    let e = c.args.event.now in
-    let p = ap (position (equals e)) (sym c.deref.ensures.value) ∙ sym c.place_of.ensures ∙ c.in-Some.is in
-    c.remove.ensures.items ∙ sym (taken_at e c.args.events.now.items c.in-Some.place p)
+returns-in-Some-clause-items c = grind (arith, position, equals, taken_at)
 
 pub returns-in-None-clause-found : goal.returns-in-None-clause-found
 returns-in-None-clause-found c =

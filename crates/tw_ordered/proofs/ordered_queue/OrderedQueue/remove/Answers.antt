@@ -1,4 +1,4 @@
-use Rattle.std.proofs.Common.{◌≡◌, ◌<◌, ap, sym, ◌∙◌, subst, refl, arith}
+use Rattle.std.proofs.Common.{◌≡◌, ap, sym, ◌∙◌, subst, arith}
 use Rattle.std.proofs.lemmas.Bool.{false≢true}
 use Rattle.tw_event.specs.Order.{event_before, event_same}
 use Rattle.tw_sim.specs.Ordered.{take_out, times}
@@ -9,39 +9,24 @@ use Rattle.tw_ordered.proofs.Rows.{is_absent, is_there, out_of, rising-take_out}
 use Rattle.tw_ordered.proofs.ordered_queue.OrderedQueue.remove.Goals as goal
 
 absent : (c : goal.Then-not-is_at) → times event_same c.args.event.now c.args.self.now ≡ 0
-absent c =
-    let e = c.args.event.now in
-    let xs = c.self.inside.events.items in
-    ap (times event_same e) (sym c.self.view_is) ∙ is_absent e xs c.self.invariant c.place_of-place.result c.place_of-place.ensures c.if-not-is_at.ensures.other
+absent c = grind (arith, is_absent)
 
 pub returns-then-not-is_at-clause-found : goal.returns-then-not-is_at-clause-found
-returns-then-not-is_at-clause-found c =
-    let n = absent c in
-    (λ u. absurd (false≢true u), λ l. absurd (omega arith))
+returns-then-not-is_at-clause-found c = grind (arith, absent, false≢true)
 
 pub returns-then-not-is_at-clause-events : goal.returns-then-not-is_at-clause-events
 returns-then-not-is_at-clause-events c =
     sym (take_out_none event_before event_same event_law c.args.event.now c.args.self.now (absent c))
 
 left : (c : goal.After-remove) → c.remove.new.self.items ≡ take_out event_same c.args.event.now c.self.inside.events.items
-left c =
-    let e = c.args.event.now in
-    let xs = c.self.inside.events.items in
-    let at = c.if-not-is_at.ensures.there in
-    let some = c.remove.ensures.succeeds e (omega (arith, at.0, c.self.inside.events.ok.0)) in
-    let gone = rw some at c.remove.ensures.items in
-    gone ∙ sym (out_of e xs c.self.invariant c.place_of-place.result c.place_of-place.ensures at.0 at.1)
+left c = grind (arith, out_of)
 
 pub invariant_of-self : goal.invariant_of-self
 invariant_of-self c =
     subst (IsRising event_before event_same) (sym (left c)) (rising-take_out c.args.event.now c.self.inside.events.items c.self.invariant)
 
 pub returns-clause-found : goal.returns-clause-found
-returns-clause-found c =
-    let e = c.args.event.now in
-    let at = c.if-not-is_at.ensures.there in
-    let h = is_there e c.self.inside.events.items c.self.invariant c.place_of-place.result c.place_of-place.ensures at.0 at.1 in
-    (λ u. subst (λ xs. 0 < times event_same e xs) c.self.view_is h, λ l. refl)
+returns-clause-found c = grind (arith, is_there)
 
 pub returns-clause-events : goal.returns-clause-events
 returns-clause-events c = left c ∙ ap (take_out event_same c.args.event.now) c.self.view_is
