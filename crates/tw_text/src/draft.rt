@@ -1,6 +1,6 @@
 //! What the lines so far have given.
 
-ghost use Rattle.std.specs.Prelude.{◌≡◌, ℕ};
+ghost use Rattle.std.specs.Prelude.{◌≡◌, ℕ, if◌then◌else◌};
 ghost use Rattle.tw_model.specs.Memory.{IsUnlessMemory, map_fault};
 ghost use Rattle.tw_model.specs.declared.case.Scene.TheVariants as AScene;
 ghost use Rattle.tw_text.specs.Drafts.{after_header, before_links, before_paths, before_scenes, check_ended, node_in, nodes_in, place_of};
@@ -97,11 +97,11 @@ fn take_scene(
     match (keyword, numbers) {
         (Keyword::Fail, [time, first, second]) => {
             let (version, case) = before_scenes(alloc, draft, ended)?;
-            with_fail(version, case, *time, *first, *second)
+            with_change(version, case, false, *time, *first, *second)
         }
         (Keyword::Restore, [time, first, second]) => {
             let (version, case) = before_scenes(alloc, draft, ended)?;
-            with_restore(version, case, *time, *first, *second)
+            with_change(version, case, true, *time, *first, *second)
         }
         (Keyword::Swap, [time, node, first, second]) => {
             let (version, case) = before_scenes(alloc, draft, ended)?;
@@ -109,11 +109,11 @@ fn take_scene(
         }
         (Keyword::Forbid, [time, node, line]) => {
             let (version, case) = before_scenes(alloc, draft, ended)?;
-            with_forbid(version, case, *time, *node, *line)
+            with_bar(version, case, true, *time, *node, *line)
         }
         (Keyword::Allow, [time, node, line]) => {
             let (version, case) = before_scenes(alloc, draft, ended)?;
-            with_allow(version, case, *time, *node, *line)
+            with_bar(version, case, false, *time, *node, *line)
         }
         _ => Err(OrMemory::Fault(LineFault::Word)),
     }
@@ -185,50 +185,33 @@ pub(crate) fn add_path(
     }
 }
 
-/// The case with one more failure of a link.
-fn with_fail(
+/// The case with one more repair of a link, or else one more failure.
+fn with_change(
     version: u32,
     case: Case,
+    repairs: bool,
     time: u64,
     first: u64,
     second: u64,
 ) -> Result<Draft, OrMemory<LineFault>>
-    ensures { IsUnlessMemory result (with_scene version case (AScene.Fail time first second)) }
+    ensures { IsUnlessMemory result (with_scene version case (if repairs then AScene.Restore time first second else AScene.Fail time first second)) }
 {
     let first = node_in(case.instance(), first)?;
     let second = node_in(case.instance(), second)?;
-    with_scene(
-        version,
-        case,
-        Scene::Fail {
+    if repairs {
+        let repair = Scene::Restore {
             time,
             first,
             second,
-        },
-    )
-}
-
-/// The case with one more repair of a link.
-fn with_restore(
-    version: u32,
-    case: Case,
-    time: u64,
-    first: u64,
-    second: u64,
-) -> Result<Draft, OrMemory<LineFault>>
-    ensures { IsUnlessMemory result (with_scene version case (AScene.Restore time first second)) }
-{
-    let first = node_in(case.instance(), first)?;
-    let second = node_in(case.instance(), second)?;
-    with_scene(
-        version,
-        case,
-        Scene::Restore {
-            time,
-            first,
-            second,
-        },
-    )
+        };
+        return with_scene(version, case, repair);
+    }
+    let failure = Scene::Fail {
+        time,
+        first,
+        second,
+    };
+    with_scene(version, case, failure)
 }
 
 /// The case with one more exchange of two places of an order.
@@ -256,33 +239,22 @@ fn with_swap(
     )
 }
 
-/// The case with one more path forbidden.
-fn with_forbid(
+/// The case with one more path forbidden, or else allowed again.
+fn with_bar(
     version: u32,
     case: Case,
+    forbids: bool,
     time: u64,
     node: u64,
     line: u64,
 ) -> Result<Draft, OrMemory<LineFault>>
-    ensures { IsUnlessMemory result (with_scene version case (AScene.Forbid time node line)) }
+    ensures { IsUnlessMemory result (with_scene version case (if forbids then AScene.Forbid time node line else AScene.Allow time node line)) }
 {
     let node = node_in(case.instance(), node)?;
     let line = place_of(line);
-    with_scene(version, case, Scene::Forbid { time, node, line })
-}
-
-/// The case with one more path allowed again.
-fn with_allow(
-    version: u32,
-    case: Case,
-    time: u64,
-    node: u64,
-    line: u64,
-) -> Result<Draft, OrMemory<LineFault>>
-    ensures { IsUnlessMemory result (with_scene version case (AScene.Allow time node line)) }
-{
-    let node = node_in(case.instance(), node)?;
-    let line = place_of(line);
+    if forbids {
+        return with_scene(version, case, Scene::Forbid { time, node, line });
+    }
     with_scene(version, case, Scene::Allow { time, node, line })
 }
 
