@@ -14,18 +14,21 @@ use tw_model::limits::MOST_COUNTED;
 use tw_model::{Counters, OrMemory};
 use tw_router::{OpenFault, Router};
 
-/// The update that router 1 gets from a neighbour.
-fn update(time: u64, src: u32, seq: u64, path: u32, session: u64) -> Event {
+/// An event of router 1.
+fn event(time: u64, src: u32, seq: u64, body: Body) -> Event {
     Event {
         time,
         dst: 1,
         src,
         seq,
-        body: Body::Update {
-            path: PathNo(path),
-            session,
-        },
+        body,
     }
+}
+
+/// The update that router 1 gets from a neighbour.
+fn update(time: u64, src: u32, seq: u64, path: u32, session: u64) -> Event {
+    let path = PathNo(path);
+    event(time, src, seq, Body::Update { path, session })
 }
 
 fn router(
@@ -118,17 +121,6 @@ enum Line<'a> {
     CountsNothing,
 }
 
-/// What happens to router 1 by a line of the scenario.
-fn scene(time: u64, seq: u64, body: Body) -> Event {
-    Event {
-        time,
-        dst: 1,
-        src: 1,
-        seq,
-        body,
-    }
-}
-
 /// Whether a line holds that changes the trail, or is shown by it.
 fn holds_on(
     trail: &mut Trail<'_>,
@@ -144,10 +136,13 @@ fn holds_on(
             (update(time, src, seq, path, 0), Ok((PathNo(rib), sent)))
         }
         Line::Meets(time, seq, body, (rib, sent)) => {
-            (scene(time, seq, body), Ok((PathNo(rib), sent)))
+            (event(time, 1, seq, body), Ok((PathNo(rib), sent)))
         }
         Line::Refuses(time, seq, body) => {
-            (scene(time, seq, body), Err(OrMemory::Fault(Fault::Foreign)))
+            (
+                event(time, 1, seq, body),
+                Err(OrMemory::Fault(Fault::Foreign)),
+            )
         }
         Line::Undoes(len, (rib, sent)) => {
             return back(trail, instance, len, sends) == (PathNo(rib), sent);
@@ -271,7 +266,8 @@ const ALLOWED: [Line<'static>; 9] = [
 enum Row<'a> {
     Trail(&'a [Line<'a>]),
     AnotherSession,
-    FullCounter,
+    LastButOne,
+    LastTwo,
     ImpossibleCounters,
 }
 
@@ -289,9 +285,22 @@ fn holds_in(alloc: Global, instance: &Instance, row: Row<'_>) -> bool
 {
     match row {
         Row::Trail(lines) => goes_from_the_start(alloc, instance, lines),
-        Row::AnotherSession => drops_another_session(alloc, instance),
-        Row::FullCounter => refuses_a_full_counter(alloc, instance),
+        Row::AnotherSession => holds_with(alloc, instance, NO_COUNTS, row),
+        Row::LastButOne => holds_with(alloc, instance, counts(MOST_COUNTED - 1), row),
+        Row::LastTwo => holds_with(alloc, instance, counts(MOST_COUNTED - 2), row),
         Row::ImpossibleCounters => refuses_impossible_counters(alloc, instance),
+    }
+}
+
+/// Whether a row holds of router 1 with these counts.
+fn holds_with(alloc: Global, instance: &Instance, counters: Counters, row: Row<'_>) -> bool
+    requires { 1 < instance.now.nodes }
+{
+    match (router(alloc, instance, counters), row) {
+        (Ok(mut router), Row::AnotherSession) => takes_a_drop_back(alloc, instance, &mut router),
+        (Ok(mut router), Row::LastButOne) => is_full(alloc, instance, &mut router, counters),
+        (Ok(mut router), Row::LastTwo) => sends_the_last(alloc, instance, &mut router),
+        _ => false,
     }
 }
 
@@ -321,15 +330,6 @@ fn takes_a_drop_back(alloc: Global, instance: &Instance, router: &mut Router<'_>
         && sends.is_empty()
 }
 
-fn drops_another_session(alloc: Global, instance: &Instance) -> bool
-    requires { 1 < instance.now.nodes }
-{
-    match router(alloc, instance, NO_COUNTS) {
-        Ok(mut router) => takes_a_drop_back(alloc, instance, &mut router),
-        Err(_) => false,
-    }
-}
-
 /// Counts of a router that has so many sends, each of its five events having changed its path.
 fn counts(sent: u64) -> Counters {
     Counters {
@@ -340,7 +340,8 @@ fn counts(sent: u64) -> Counters {
     }
 }
 
-/// Whether the router, which has these counts, refuses an update that it would send on, and is as it was.
+/// Whether the router, which has these counts and may send once more, refuses an update that it would send on, and is as
+/// it was.
 fn is_full(alloc: Global, instance: &Instance, router: &mut Router<'_>, full: Counters) -> bool
     requires { instance.now ≡ router.old.net }
 {
@@ -362,33 +363,6 @@ fn sends_the_last(alloc: Global, instance: &Instance, router: &mut Router<'_>) -
         && router.counters().sent == 1 << 48
 }
 
-/// Whether a router that may send once more refuses an update.
-fn refuses_at_the_last_but_one(alloc: Global, instance: &Instance) -> bool
-    requires { 1 < instance.now.nodes }
-{
-    let full = counts(MOST_COUNTED - 1);
-    match router(alloc, instance, full) {
-        Ok(mut router) => is_full(alloc, instance, &mut router, full),
-        Err(_) => false,
-    }
-}
-
-/// Whether a router that may send twice more takes an update.
-fn takes_the_last_two(alloc: Global, instance: &Instance) -> bool
-    requires { 1 < instance.now.nodes }
-{
-    match router(alloc, instance, counts(MOST_COUNTED - 2)) {
-        Ok(mut router) => sends_the_last(alloc, instance, &mut router),
-        Err(_) => false,
-    }
-}
-
-fn refuses_a_full_counter(alloc: Global, instance: &Instance) -> bool
-    requires { 1 < instance.now.nodes }
-{
-    refuses_at_the_last_but_one(alloc, instance) && takes_the_last_two(alloc, instance)
-}
-
 fn refuses_impossible_counters(alloc: Global, instance: &Instance) -> bool
     requires { 1 < instance.now.nodes }
 {
@@ -404,14 +378,15 @@ fn refuses_impossible_counters(alloc: Global, instance: &Instance) -> bool
 }
 
 /// What is shown of router 1, each with a name and the text of the case.
-const ROWS: [(&str, &str, Row<'static>); 8] = [
+const ROWS: [(&str, &str, Row<'static>); 9] = [
     ("each state", DISAGREE, Row::Trail(&STATES)),
     ("the rank row", DISAGREE, Row::Trail(&RANKS)),
     ("an exchange", RANK_EXCHANGE, Row::Trail(&EXCHANGE)),
     ("a forbidden path", DISAGREE, Row::Trail(&FORBIDDEN)),
     ("an allowed path", DISAGREE, Row::Trail(&ALLOWED)),
     ("another session", DISAGREE, Row::AnotherSession),
-    ("a full counter", DISAGREE, Row::FullCounter),
+    ("a full counter", DISAGREE, Row::LastButOne),
+    ("the last two counts", DISAGREE, Row::LastTwo),
     ("impossible counters", DISAGREE, Row::ImpossibleCounters),
 ];
 

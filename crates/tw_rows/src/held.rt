@@ -2,26 +2,11 @@
 
 ghost use Rattle.std.specs.Prelude.{◌≡◌, ◌<◌, ◌≤◌};
 
+use crate::made::again;
 use std::alloc::{AllocError, Global};
 use tw_event::{Body, Event, PathNo};
 use tw_held::HeldSends;
 use tw_sim::Signed;
-
-/// An update of this router for router 0.
-fn sent(time: u64, src: u32, seq: u64) -> Event
-    ensures { result.src ≡ src }
-{
-    Event {
-        time,
-        dst: 0,
-        src,
-        seq,
-        body: Body::Update {
-            path: PathNo::EMPTY,
-            session: 0,
-        },
-    }
-}
 
 /// Inserts the event, once more where memory was refused.
 fn insert(held: &mut HeldSends, event: Event) -> Result<(), AllocError>
@@ -44,14 +29,6 @@ fn make_room(held: &mut HeldSends) -> Result<(), AllocError>
     }
 }
 
-/// Room for so many antimessages, asked for once more where memory was refused.
-fn room_for(alloc: Global, count: usize) -> Result<Vec<Signed<Event>>, AllocError> {
-    match Vec::with_capacity(alloc, count) {
-        Err(_) => Vec::with_capacity(alloc, count),
-        done => done,
-    }
-}
-
 /// The time, the sender and the number of an update for router 0.
 type Sent = (u64, u32, u64);
 
@@ -59,12 +36,21 @@ type Sent = (u64, u32, u64);
 fn event_of(update: Sent) -> Event
     ensures { result.src ≡ update.1 }
 {
-    sent(update.0, update.1, update.2)
+    Event {
+        time: update.0,
+        dst: 0,
+        src: update.1,
+        seq: update.2,
+        body: Body::Update {
+            path: PathNo::EMPTY,
+            session: 0,
+        },
+    }
 }
 
 /// What is done with held sends, or what they are.
 #[derive(Clone, Copy)]
-enum Line<'a> {
+enum Line {
     /// There is room for four events.
     Room,
     /// The event is inserted.
@@ -73,8 +59,8 @@ enum Line<'a> {
     InsertAtOnce(Sent),
     /// The event is removed, and whether it was there.
     Remove(Sent, bool),
-    /// These events are held.
-    Has(&'a [Sent]),
+    /// So many are held.
+    Length(usize),
     /// Some are held.
     Some,
     /// The least time.
@@ -86,7 +72,7 @@ enum Line<'a> {
 }
 
 /// Whether a line holds that changes what is held, or is shown by it.
-fn holds_on(held: &mut HeldSends, line: Line<'_>) -> bool
+fn holds_on(held: &mut HeldSends, line: Line) -> bool
     requires { held.old.routers ≡ 3 }
     ensures { held.new.routers ≡ 3 }
 {
@@ -100,9 +86,9 @@ fn holds_on(held: &mut HeldSends, line: Line<'_>) -> bool
 }
 
 /// Whether what is held is as a line says, which changes nothing.
-fn shows(held: &HeldSends, line: Line<'_>) -> bool {
+fn shows(held: &HeldSends, line: Line) -> bool {
     match line {
-        Line::Has(updates) => has(held, updates),
+        Line::Length(length) => held.len() == length,
         Line::Some => !held.is_empty(),
         Line::LeastTime(time) => held.least_time() == Some(time),
         Line::LeastTimeOf(sender, time) => held.least_time_of(sender) == time,
@@ -112,7 +98,7 @@ fn shows(held: &HeldSends, line: Line<'_>) -> bool {
 }
 
 /// Whether the lines hold one after the other.
-fn goes_by(held: &mut HeldSends, lines: &[Line<'_>]) -> bool
+fn goes_by(held: &mut HeldSends, lines: &[Line]) -> bool
     requires { held.old.routers ≡ 3 }
     ensures { held.new.routers ≡ 3 }
 {
@@ -124,21 +110,46 @@ fn goes_by(held: &mut HeldSends, lines: &[Line<'_>]) -> bool
     true
 }
 
-/// Whether so many events of a sender are held as these have, the first at the same time.
-fn has_of(held: &HeldSends, sender: u32, updates: &[Sent]) -> bool {
-    let count = updates.iter().filter(|update| update.1 == sender).count();
-    let first = updates.iter().find(|update| update.1 == sender);
-    held.count_of_sender(sender) == count
-        && held.least_time_of(sender) == first.map(|update| update.0)
+/// An antimessage of this update.
+fn back(update: Sent) -> Signed<Event> {
+    Signed {
+        plus: false,
+        event: event_of(update),
+    }
 }
 
-/// Whether as many events are held as these are, which are in order, and as many of each sender.
-fn has(held: &HeldSends, updates: &[Sent]) -> bool {
-    held.len() == updates.len() && (0..3).all(|sender| has_of(held, sender, updates))
+/// Releases what a router has sent, where there is room for it.
+fn release(held: &mut HeldSends, sender: u32, outgoing: &mut Vec<Signed<Event>>) -> bool {
+    if outgoing.capacity() - outgoing.len() < held.count_of_sender(sender) {
+        return false;
+    }
+    held.release(sender, outgoing);
+    true
+}
+
+/// Whether these are the antimessages of the updates.
+fn are_back(outgoing: &[Signed<Event>], updates: &[Sent]) -> bool {
+    outgoing.len() == updates.len()
+        && outgoing
+            .iter()
+            .zip(updates)
+            .all(|(message, update)| *message == back(*update))
+}
+
+/// Whether these events, by sender and then in their order, are all that is held; none is then.
+fn gives(alloc: Global, held: &mut HeldSends, updates: &[Sent]) -> bool {
+    let Ok(mut outgoing) = again(|| Vec::with_capacity(alloc, updates.len())) else {
+        return false;
+    };
+    release(held, 0, &mut outgoing)
+        && release(held, 1, &mut outgoing)
+        && release(held, 2, &mut outgoing)
+        && are_back(&outgoing, updates)
+        && held.is_empty()
 }
 
 /// What routers 1 and 2 have sent: router 2 twice at time 6, and at time 10, router 1 at time 8.
-const SOME_HELD: [Line<'static>; 4] = [
+const SOME_HELD: [Line; 4] = [
     Line::Insert((10, 2, 1)),
     Line::Insert((8, 1, 0)),
     Line::Insert((6, 2, 0)),
@@ -146,8 +157,8 @@ const SOME_HELD: [Line<'static>; 4] = [
 ];
 
 /// After these, what is held is counted and found by its sender, as often as it was inserted.
-const FOUND: [Line<'static>; 9] = [
-    Line::Has(&[(6, 2, 0), (6, 2, 0), (8, 1, 0), (10, 2, 1)]),
+const FOUND: [Line; 9] = [
+    Line::Length(4),
     Line::Some,
     Line::LeastTime(6),
     Line::LeastTimeOf(0, None),
@@ -159,17 +170,16 @@ const FOUND: [Line<'static>; 9] = [
 ];
 
 /// After these, what is sent again comes out once for each time, and nothing else does.
-const SENT_AGAIN: [Line<'static>; 6] = [
+const SENT_AGAIN: [Line; 5] = [
     Line::Remove((6, 2, 0), true),
     Line::Remove((6, 2, 0), true),
     Line::Remove((6, 2, 0), false),
     Line::Remove((10, 1, 1), false),
-    Line::Has(&[(8, 1, 0), (10, 2, 1)]),
     Line::LeastTime(8),
 ];
 
 /// What there is room for is held at the first call, whatever is refused then.
-const WITH_ROOM: [Line<'static>; 9] = [
+const WITH_ROOM: [Line; 8] = [
     Line::Room,
     Line::InsertAtOnce((10, 2, 1)),
     Line::InsertAtOnce((8, 1, 0)),
@@ -178,66 +188,63 @@ const WITH_ROOM: [Line<'static>; 9] = [
     Line::LeastTimeOf(2, Some(6)),
     Line::Counts(2, 3),
     Line::Remove((10, 2, 1), true),
-    Line::Has(&[(6, 2, 0), (6, 2, 0), (8, 1, 0)]),
 ];
 
-/// Whether the lines hold of what is held after these.
-fn goes_on(alloc: Global, before: &[Line<'_>], lines: &[Line<'_>]) -> bool {
+/// Whether the lines hold of what is held after these, and these events are held at last, by sender.
+fn goes_on(alloc: Global, before: &[Line], lines: &[Line], updates: &[Sent]) -> bool {
     let held = &mut HeldSends::new(alloc, 3);
-    goes_by(held, before) && goes_by(held, lines)
+    goes_by(held, before) && goes_by(held, lines) && gives(alloc, held, updates)
 }
 
-/// What holds of held sends: a name, what was done before, and what holds then.
-const ROWS: [(&str, &[Line<'static>], &[Line<'static>]); 3] = [
-    ("found by its sender", &SOME_HELD, &FOUND),
-    ("sent again", &SOME_HELD, &SENT_AGAIN),
-    ("with room", &[], &WITH_ROOM),
+/// What holds of held sends: a name, what was done before, what holds then, and what is held at last.
+const ROWS: [(&str, &[Line], &[Line], &[Sent]); 3] = [
+    (
+        "found by its sender",
+        &SOME_HELD,
+        &FOUND,
+        &[(8, 1, 0), (6, 2, 0), (6, 2, 0), (10, 2, 1)],
+    ),
+    (
+        "sent again",
+        &SOME_HELD,
+        &SENT_AGAIN,
+        &[(8, 1, 0), (10, 2, 1)],
+    ),
+    (
+        "with room",
+        &[],
+        &WITH_ROOM,
+        &[(8, 1, 0), (6, 2, 0), (6, 2, 0)],
+    ),
 ];
 
 #[test]
 fn what_is_sent_is_held(rt: HostRuntime) {
-    for (name, before, lines) in &ROWS {
-        assert!(rt; goes_on(rt.alloc(), before, lines), "{name}");
+    for (name, before, lines, updates) in &ROWS {
+        assert!(rt; goes_on(rt.alloc(), before, lines, updates), "{name}");
     }
-}
-
-/// An antimessage of this update.
-fn back(update: Sent) -> Signed<Event> {
-    Signed {
-        plus: false,
-        event: event_of(update),
-    }
-}
-
-/// Releases what router 2 has sent, where there is room for it.
-fn release(held: &mut HeldSends, outgoing: &mut Vec<Signed<Event>>) -> bool {
-    if outgoing.capacity() - outgoing.len() < held.count_of_sender(2) {
-        return false;
-    }
-    held.release(2, outgoing);
-    true
 }
 
 /// Whether router 2's sends are taken back in the order of events, behind what was there, and router 1's stay.
-fn is_released(held: &mut HeldSends, outgoing: &mut Vec<Signed<Event>>) -> bool {
+fn is_released(alloc: Global, held: &mut HeldSends, outgoing: &mut Vec<Signed<Event>>) -> bool {
     let there = Signed {
         plus: true,
         event: event_of((3, 1, 0)),
     };
     let (first, last) = (back((6, 2, 0)), back((10, 2, 1)));
     outgoing.push(there).is_ok()
-        && release(held, outgoing)
+        && release(held, 2, outgoing)
         && outgoing.as_slice() == &[there, first, first, last][..]
-        && has(held, &[(8, 1, 0)])
+        && gives(alloc, held, &[(8, 1, 0)])
 }
 
 /// The same of some held sends.
 fn are_released(alloc: Global) -> bool {
     let held = &mut HeldSends::new(alloc, 3);
-    match room_for(alloc, 4) {
-        Ok(mut outgoing) => goes_by(held, &SOME_HELD) && is_released(held, &mut outgoing),
-        Err(_) => false,
-    }
+    let Ok(mut outgoing) = again(|| Vec::with_capacity(alloc, 4)) else {
+        return false;
+    };
+    goes_by(held, &SOME_HELD) && is_released(alloc, held, &mut outgoing)
 }
 
 #[test]
@@ -262,21 +269,21 @@ fn goes_to_another(alloc: Global, router: u32, left: &[Sent], given: &[Sent]) ->
     goes_by(held, &SOME_HELD)
         && holds_on(to, Line::Insert((7, 2, 4)))
         && hand_over(held, router, to).is_ok()
-        && has(held, left)
-        && has(to, given)
+        && gives(alloc, held, left)
+        && gives(alloc, to, given)
 }
 
-/// What is left and what is given where a router's sends go to others.
+/// What is left and what is given where a router's sends go to others, each by sender.
 const GIVEN: [(u32, &[Sent], &[Sent]); 3] = [
     (
         0,
-        &[(6, 2, 0), (6, 2, 0), (8, 1, 0), (10, 2, 1)],
+        &[(8, 1, 0), (6, 2, 0), (6, 2, 0), (10, 2, 1)],
         &[(7, 2, 4)],
     ),
     (
         1,
         &[(6, 2, 0), (6, 2, 0), (10, 2, 1)],
-        &[(7, 2, 4), (8, 1, 0)],
+        &[(8, 1, 0), (7, 2, 4)],
     ),
     (
         2,

@@ -1,10 +1,10 @@
 //! Instances and cases by calls, from items in place of a text.
 
+use crate::readings::is_written_as;
 use crate::texts::{DISAGREE, FORBIDDEN_PATH};
 use std::alloc::{AllocError, Global};
 use tw_event::{Body, Event, PathNo};
 use tw_instance::{At, Case, Instance, Item, Link, OrMemory, PermittedPath, Rule, Scene};
-use tw_text::write_case;
 
 /// A link between two routers, with the delay from the first to the second and the delay back.
 fn link(first: u32, second: u32, delay: u64, back: u64) -> Link {
@@ -104,20 +104,6 @@ fn build(
     }
 }
 
-/// The text of a case, written once more where memory was refused.
-fn text_of(alloc: Global, case: &Case) -> Result<Vec<u8>, AllocError> {
-    match write_case(alloc, case) {
-        Err(_) => write_case(alloc, case),
-        written => written,
-    }
-}
-
-/// Whether a case is of this version and written as this text.
-fn is_written_as(alloc: Global, case: &Case, version: u32, text: &str) -> bool {
-    case.version() == version
-        && text_of(alloc, case).is_ok_and(|written| written.as_slice() == text.as_bytes())
-}
-
 /// Whether DISAGREE is written as its text, and begins with the origin's start alone.
 fn is_that_of_the_text(alloc: Global, case: &Case) -> bool {
     let start = Event {
@@ -127,7 +113,8 @@ fn is_that_of_the_text(alloc: Global, case: &Case) -> bool {
         seq: 0,
         body: Body::Start,
     };
-    is_written_as(alloc, case, 1, DISAGREE)
+    case.version() == 1
+        && is_written_as(alloc, case, DISAGREE)
         && case.opening(0) == Some(start)
         && case.opening(1) == None
 }
@@ -142,7 +129,9 @@ fn has_a_delay_for_each_direction(instance: &Instance) -> bool {
 
 /// Whether a path that is forbidden and allowed, and two delays of a link, are written in version 2.
 fn is_that_of_the_text_in_version_2(alloc: Global, case: &Case) -> bool {
-    is_written_as(alloc, case, 2, FORBIDDEN_PATH) && has_a_delay_for_each_direction(case.instance())
+    case.version() == 2
+        && is_written_as(alloc, case, FORBIDDEN_PATH)
+        && has_a_delay_for_each_direction(case.instance())
 }
 
 /// Whether the paths of DISAGREE have the numbers that their nodes give them.
@@ -177,10 +166,9 @@ fn finds_its_paths(instance: &Instance) -> bool {
 
 /// Whether DISAGREE built from items is that of its text, and finds its paths.
 fn is_disagree(alloc: Global) -> bool {
-    match build(alloc, 1, &LINKS, &[]) {
-        Ok(case) => is_that_of_the_text(alloc, &case) && finds_its_paths(case.instance()),
-        Err(_) => false,
-    }
+    build(alloc, 1, &LINKS, &[]).is_ok_and(|case| {
+        is_that_of_the_text(alloc, &case) && finds_its_paths(case.instance())
+    })
 }
 
 #[test]
@@ -188,17 +176,11 @@ fn a_case_from_items_is_that_of_the_text(rt: HostRuntime) {
     assert!(rt; is_disagree(rt.alloc()));
 }
 
-/// Whether a case of version 2 built from items is that of its text.
-fn is_forbidden_path(alloc: Global) -> bool {
-    match build(alloc, 2, &TWO_DELAYS, &[FORBIDDEN, ALLOWED]) {
-        Ok(case) => is_that_of_the_text_in_version_2(alloc, &case),
-        Err(_) => false,
-    }
-}
-
 #[test]
 fn a_case_of_version_2_is_that_of_its_text(rt: HostRuntime) {
-    assert!(rt; is_forbidden_path(rt.alloc()));
+    let alloc = rt.alloc();
+    let made = build(alloc, 2, &TWO_DELAYS, &[FORBIDDEN, ALLOWED]);
+    assert!(rt; made.is_ok_and(|case| is_that_of_the_text_in_version_2(alloc, &case)));
 }
 
 /// The link between the origin and router 2 fails.
@@ -242,10 +224,7 @@ fn is_refused(
         item: broken.0,
         fault: OrMemory::Fault(broken.1),
     };
-    match build(alloc, version, links, scenes) {
-        Err(OrMemory::Fault(found)) => found == at,
-        _ => false,
-    }
+    matches!(build(alloc, version, links, scenes), Err(OrMemory::Fault(found)) if found == at)
 }
 
 /// Items that are refused: the version, the links, the scenario, and the item and the rule that it breaks. The first

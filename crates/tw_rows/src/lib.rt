@@ -12,6 +12,8 @@ pub mod cases;
 #[cfg(test)]
 mod command_lines;
 #[cfg(test)]
+mod handed_over;
+#[cfg(test)]
 mod handlers;
 #[cfg(test)]
 mod held;

@@ -1,20 +1,24 @@
 //! Pending events by calls.
 
-ghost use Rattle.std.specs.Prelude.{◌≡◌, ◌<◌, ◌≤◌, IfOk};
+ghost use Rattle.std.specs.Prelude.{◌≡◌, ◌<◌, IfOk};
 
+use crate::made::again;
 use std::alloc::{AllocError, Global};
 use tw_event::{Body, Event, PathNo};
 use tw_queue::Pending;
 
-/// The origin's update for a neighbour.
-fn offer(time: u64, dst: u32, seq: u64) -> Event
-    ensures { result.dst ≡ dst }
+/// The time, the router and the number of an event that the origin sends.
+pub(crate) type Offer = (u64, u32, u64);
+
+/// The event of an offer: an update of the origin's.
+fn event_of(offered: Offer) -> Event
+    ensures { result.dst ≡ offered.1 }
 {
     Event {
-        time,
-        dst,
+        time: offered.0,
+        dst: offered.1,
         src: 0,
-        seq,
+        seq: offered.2,
         body: Body::Update {
             path: PathNo::ORIGIN,
             session: 0,
@@ -22,35 +26,22 @@ fn offer(time: u64, dst: u32, seq: u64) -> Event
     }
 }
 
-/// Pending events of three routers, none yet; asked for once more where memory was refused.
-fn nothing_pending(alloc: Global) -> Result<Pending, AllocError>
-    ensures { IfOk result (λ pending. pending.routers ≡ 3) }
-{
-    match Pending::new(alloc, 3) {
-        Err(_) => Pending::new(alloc, 3),
-        done => done,
-    }
-}
-
-/// Keeps what is pending by time, asked for once more where memory was refused.
-fn keep_by_time(pending: &mut Pending) -> Result<(), AllocError>
-    ensures { pending.new ≡ pending.old }
-{
-    match pending.keep_by_time() {
-        Err(_) => pending.keep_by_time(),
-        done => done,
-    }
-}
-
 /// Pending events of three routers, none yet, which may be kept by time.
-fn nothing(alloc: Global, by_time: bool) -> Result<Pending, AllocError>
+fn made(alloc: Global, by_time: bool) -> Result<Pending, AllocError>
     ensures { IfOk result (λ pending. pending.routers ≡ 3) }
 {
-    let mut pending = nothing_pending(alloc)?;
+    let mut pending = Pending::new(alloc, 3)?;
     if by_time {
-        keep_by_time(&mut pending)?;
+        pending.keep_by_time()?;
     }
     Ok(pending)
+}
+
+/// The same, made once more where memory was refused.
+pub(crate) fn nothing(alloc: Global, by_time: bool) -> Result<Pending, AllocError>
+    ensures { IfOk result (λ pending. pending.routers ≡ 3) }
+{
+    again(|| made(alloc, by_time))
 }
 
 /// Inserts the event, once more where memory was refused.
@@ -100,7 +91,7 @@ fn insert_many(pending: &mut Pending) -> Result<(), AllocError>
     ensures { pending.new.routers ≡ 3 }
 {
     for seq in 0..MANY {
-        insert(pending, offer(0, 1, seq))?;
+        insert(pending, event_of((0, 1, seq)))?;
     }
     Ok(())
 }
@@ -111,19 +102,16 @@ fn takes_many(pending: &mut Pending) -> bool
     ensures { pending.new.routers ≡ 3 }
 {
     for seq in 0..MANY {
-        if !takes(pending, offer(0, 1, seq)) {
+        if !takes(pending, event_of((0, 1, seq))) {
             return false;
         }
     }
     true
 }
 
-/// The time, the router and the number of an event that the origin sends.
-type Offer = (u64, u32, u64);
-
 /// What is done with pending events, or what they are. An event is given as an offer of the origin.
 #[derive(Clone, Copy)]
-enum Line<'a> {
+pub(crate) enum Line<'a> {
     /// The event is inserted.
     Insert(Offer),
     /// Many events of router 1 are inserted.
@@ -156,15 +144,8 @@ enum Line<'a> {
     Lists(&'a [Offer]),
 }
 
-/// The event of an offer.
-fn event_of(offered: Offer) -> Event
-    ensures { result.dst ≡ offered.1 }
-{
-    offer(offered.0, offered.1, offered.2)
-}
-
 /// Whether a line holds that changes what is pending, or is shown by it.
-fn holds_on(pending: &mut Pending, line: Line<'_>) -> bool
+pub(crate) fn holds_on(pending: &mut Pending, line: Line<'_>) -> bool
     requires { pending.old.routers ≡ 3 }
     ensures { pending.new.routers ≡ 3 }
 {
@@ -196,7 +177,7 @@ fn shows(pending: &Pending, line: Line<'_>) -> bool {
 }
 
 /// Whether the lines hold one after the other.
-fn goes_by(pending: &mut Pending, lines: &[Line<'_>]) -> bool
+pub(crate) fn goes_by(pending: &mut Pending, lines: &[Line<'_>]) -> bool
     requires { pending.old.routers ≡ 3 }
     ensures { pending.new.routers ≡ 3 }
 {
@@ -219,11 +200,8 @@ fn are_these(events: &[Event], offers: &[Offer]) -> bool {
 
 /// Whether these events are pending, listed once more where memory was refused.
 fn lists(pending: &Pending, offers: &[Offer]) -> bool {
-    let list = match pending.list() {
-        Err(_) => pending.list(),
-        done => done,
-    };
-    pending.len() == offers.len() && list.is_ok_and(|list| are_these(&list, offers))
+    pending.len() == offers.len()
+        && again(|| pending.list()).is_ok_and(|list| are_these(&list, offers))
 }
 
 /// An event is counted as often as it was inserted, and events are taken in their order.
@@ -247,7 +225,7 @@ const COUNTED: [Line<'static>; 16] = [
 ];
 
 /// Events of near ticks and a far one.
-const NEAR_AND_FAR: [Line<'static>; 4] = [
+pub(crate) const NEAR_AND_FAR: [Line<'static>; 4] = [
     Line::Insert((5, 1, 0)),
     Line::Insert((100, 1, 3)),
     Line::Insert((5, 2, 1)),
@@ -321,33 +299,17 @@ fn events_are_pending_until_they_are_taken(rt: HostRuntime) {
     }
 }
 
-/// Puts the event at the end of the list, once more where memory was refused.
-fn push(events: &mut Vec<Event>, event: Event) -> Result<(), AllocError> {
-    if events.push(event).is_err() {
-        events.push(event)?;
-    }
-    Ok(())
-}
-
 /// Inserts events of router 1 at times up to three turns of the buckets, in no order, and puts them into a list.
 fn scatter(pending: &mut Pending, events: &mut Vec<Event>) -> Result<(), AllocError>
     requires { pending.old.routers ≡ 3 }
     ensures { pending.new.routers ≡ 3 }
 {
     for seq in 0..600 {
-        let event = offer(seq * 769 % 3079, 1, seq);
+        let event = event_of((seq * 769 % 3079, 1, seq));
         insert(pending, event)?;
-        push(events, event)?;
+        again(|| events.push(event))?;
     }
     Ok(())
-}
-
-/// Whether many events of a router come out as from one list in order, every third of them removed first.
-fn comes_as_from_a_list(alloc: Global, pending: &mut Pending) -> bool
-    requires { pending.old.routers ≡ 3 }
-{
-    let mut events = Vec::new(alloc);
-    scatter(pending, &mut events).is_ok() && comes_in_order(pending, &mut events)
 }
 
 /// Whether the events that are pending come out in order, every third of them removed first.
@@ -378,146 +340,16 @@ fn takes_others(pending: &mut Pending, events: &[Event]) -> bool {
 
 /// Whether many events of a router come out as from a list of them.
 fn many_come(alloc: Global, by_time: bool) -> bool {
-    match nothing(alloc, by_time) {
-        Ok(mut pending) => comes_as_from_a_list(alloc, &mut pending),
-        Err(_) => false,
-    }
+    let Ok(mut pending) = nothing(alloc, by_time) else {
+        return false;
+    };
+    let mut events = Vec::new(alloc);
+    scatter(&mut pending, &mut events).is_ok() && comes_in_order(&mut pending, &mut events)
 }
 
 #[test]
 fn many_events_come_out_as_from_a_list(rt: HostRuntime) {
     for by_time in [false, true] {
         assert!(rt; many_come(rt.alloc(), by_time), "{by_time}");
-    }
-}
-
-/// Hands over what is pending for a router, once more where memory was refused.
-fn hand_over(pending: &mut Pending, router: u32, to: &mut Pending) -> Result<(), AllocError>
-    requires { pending.old.routers ≤ to.old.routers }
-    ensures first { pending.new.routers ≡ pending.old.routers }
-    ensures second { to.new.routers ≡ to.old.routers }
-{
-    match pending.hand_over(router, to) {
-        Err(_) => pending.hand_over(router, to),
-        done => done,
-    }
-}
-
-/// One event of router 1 twice, and one of router 2.
-const TWO_AND_ONE: [Line<'static>; 3] = [
-    Line::Insert((5, 2, 1)),
-    Line::Insert((1, 1, 0)),
-    Line::Insert((1, 1, 0)),
-];
-
-/// What a router has goes from one list to another.
-#[derive(Clone, Copy)]
-struct HandOver<'a> {
-    /// Whether both are kept by time.
-    by_time: bool,
-    /// What was done with the first list.
-    before: &'a [Line<'a>],
-    /// What was done with the other.
-    own: &'a [Line<'a>],
-    router: u32,
-    /// What then holds of the first list.
-    left: &'a [Line<'a>],
-    /// What then holds of the other.
-    given: &'a [Line<'a>],
-}
-
-/// Whether what is pending for the router goes to the other list, and leaves the others.
-fn is_given(pending: &mut Pending, to: &mut Pending, row: HandOver<'_>) -> bool
-    requires first { pending.old.routers ≡ 3 }
-    requires second { to.old.routers ≡ 3 }
-{
-    goes_by(pending, row.before)
-        && goes_by(to, row.own)
-        && hand_over(pending, row.router, to).is_ok()
-        && goes_by(pending, row.left)
-        && goes_by(to, row.given)
-}
-
-/// The same of another list, with no event yet.
-fn goes_to_an_empty_one(alloc: Global, pending: &mut Pending, row: HandOver<'_>) -> bool
-    requires { pending.old.routers ≡ 3 }
-{
-    match nothing(alloc, row.by_time) {
-        Ok(mut to) => is_given(pending, &mut to, row),
-        Err(_) => false,
-    }
-}
-
-/// The same of two lists with no event yet.
-fn goes_to_another(alloc: Global, row: HandOver<'_>) -> bool {
-    match nothing(alloc, row.by_time) {
-        Ok(mut pending) => goes_to_an_empty_one(alloc, &mut pending, row),
-        Err(_) => false,
-    }
-}
-
-/// Events of which router 0 has none.
-const OF_NONE: HandOver<'static> = HandOver {
-    by_time: false,
-    before: &TWO_AND_ONE,
-    own: &[Line::Insert((3, 1, 2))],
-    router: 0,
-    left: &[Line::Lists(&[(1, 1, 0), (1, 1, 0), (5, 2, 1)])],
-    given: &[Line::Lists(&[(3, 1, 2)])],
-};
-
-/// Events of which router 1 has one twice.
-const OF_TWO: HandOver<'static> = HandOver {
-    by_time: false,
-    before: &TWO_AND_ONE,
-    own: &[Line::Insert((3, 1, 2))],
-    router: 1,
-    left: &[Line::Lists(&[(5, 2, 1)])],
-    given: &[Line::Lists(&[(1, 1, 0), (1, 1, 0), (3, 1, 2)])],
-};
-
-/// Events of which router 2 has one.
-const OF_ONE: HandOver<'static> = HandOver {
-    by_time: false,
-    before: &TWO_AND_ONE,
-    own: &[Line::Insert((3, 1, 2))],
-    router: 2,
-    left: &[Line::Lists(&[(1, 1, 0), (1, 1, 0)])],
-    given: &[Line::Lists(&[(3, 1, 2), (5, 2, 1)])],
-};
-
-/// Events by time of router 1, one of the tick at hand and a far one among them.
-const BY_TIME: HandOver<'static> = HandOver {
-    by_time: true,
-    before: &NEAR_AND_FAR,
-    own: &[],
-    router: 1,
-    left: &[Line::Lists(&[(5, 2, 1)])],
-    given: &[Line::Lists(&[(3, 1, 2), (5, 1, 0), (100, 1, 3)])],
-};
-
-/// Many events of router 1, which stand in buckets, and come out there in order.
-const OF_MANY: HandOver<'static> = HandOver {
-    by_time: false,
-    before: &[Line::InsertMany],
-    own: &[],
-    router: 1,
-    left: &[Line::Empty],
-    given: &[Line::TakeMany, Line::Empty],
-};
-
-/// What goes to another list, each with a name.
-const GIVEN: [(&str, HandOver<'static>); 5] = [
-    ("router 0", OF_NONE),
-    ("router 1", OF_TWO),
-    ("router 2", OF_ONE),
-    ("by time", BY_TIME),
-    ("many", OF_MANY),
-];
-
-#[test]
-fn what_is_pending_for_a_router_goes_to_another_list(rt: HostRuntime) {
-    for (name, row) in &GIVEN {
-        assert!(rt; goes_to_another(rt.alloc(), *row), "{name}");
     }
 }

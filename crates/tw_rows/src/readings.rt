@@ -1,32 +1,17 @@
 //! Texts that are read, and written again.
 
 use crate::cases::case;
+use crate::made::{again, again_for_memory};
 use crate::texts::{DISAGREE, FAILURE_AND_REPAIR, FORBIDDEN_PATH, RANK_EXCHANGE};
-use std::alloc::{AllocError, Global};
+use std::alloc::Global;
 use tw_instance::Case;
-use tw_model::OrMemory;
 use tw_sim::Step;
-use tw_text::{TextFault, read_replay, read_steps, write_case};
-
-/// The steps of a text, tried again where memory was refused.
-fn steps_of(alloc: Global, text: &str) -> Result<Vec<Step>, OrMemory<TextFault>> {
-    match read_steps(alloc, text.as_bytes()) {
-        Err(OrMemory::Memory) => read_steps(alloc, text.as_bytes()),
-        read => read,
-    }
-}
-
-/// The case and the steps of a text, tried again where memory was refused.
-fn replay_of(alloc: Global, text: &str) -> Result<(Case, Vec<Step>), OrMemory<TextFault>> {
-    match read_replay(alloc, text.as_bytes()) {
-        Err(OrMemory::Memory) => read_replay(alloc, text.as_bytes()),
-        read => read,
-    }
-}
+use tw_text::{read_replay, read_steps, write_case};
 
 #[test]
 fn a_bound_and_the_end_are_one_step(rt: HostRuntime) {
-    let Ok(steps) = steps_of(rt.alloc(), "bound\nend\n") else {
+    let alloc = rt.alloc();
+    let Ok(steps) = again_for_memory(|| read_steps(alloc, b"bound\nend\n")) else {
         panic!(rt; "refused")
     };
     assert!(rt; steps.as_slice() == [Step::Bound].as_slice());
@@ -39,10 +24,9 @@ fn handles_at_0(replay: &(Case, Vec<Step>)) -> bool {
 
 /// Whether the steps of a replay follow its case.
 fn reads_a_replay(alloc: Global) -> bool {
-    match replay_of(alloc, "spp 1\nnodes 1\nend\nhandle 0\nend\n") {
-        Ok(replay) => handles_at_0(&replay),
-        Err(_) => false,
-    }
+    again_for_memory(|| read_replay(alloc, b"spp 1\nnodes 1\nend\nhandle 0\nend\n")).is_ok_and(
+        |replay| handles_at_0(&replay),
+    )
 }
 
 #[test]
@@ -50,28 +34,14 @@ fn the_steps_of_a_replay_follow_its_case(rt: HostRuntime) {
     assert!(rt; reads_a_replay(rt.alloc()));
 }
 
-/// The text of a case, written once more where memory was refused.
-fn text_of(alloc: Global, case: &Case) -> Result<Vec<u8>, AllocError> {
-    match write_case(alloc, case) {
-        Err(_) => write_case(alloc, case),
-        written => written,
-    }
-}
-
-/// Whether a case is written as this text.
-fn is_written_as(alloc: Global, case: &Case, text: &str) -> bool {
-    match text_of(alloc, case) {
-        Ok(written) => written.as_slice() == text.as_bytes(),
-        Err(_) => false,
-    }
+/// Whether a case is written as this text, at the second time where memory was refused.
+pub(crate) fn is_written_as(alloc: Global, case: &Case, text: &str) -> bool {
+    again(|| write_case(alloc, case)).is_ok_and(|written| written.as_slice() == text.as_bytes())
 }
 
 /// Whether the case of a text is written as it was.
 fn is_written_again(alloc: Global, text: &str) -> bool {
-    match case(alloc, text) {
-        Ok(case) => is_written_as(alloc, &case, text),
-        Err(_) => false,
-    }
+    case(alloc, text).is_ok_and(|case| is_written_as(alloc, &case, text))
 }
 
 /// Texts of cases.
