@@ -20,11 +20,11 @@ pub step : {E : Type 0} (xs : List E) (i : ℕ) (x : E) → i < length xs → x 
 step xs i x l is = drop-cons xs i x l ∙ (ap (λ y. y ∷ drop (suc i) xs) (sym is) ∙ ap (λ k. x ∷ drop k xs) (sym (add-one i)))
 
 module _ {E : Type 0} (cmp : E → E → Ordering) (order : IsTotalOrder cmp) (exact : (d e : E) → cmp d e ≡ Equal → d ≡ e) where
-  law : IsOrder (is_before cmp) (is_same cmp)
+  pub law : IsOrder (is_before cmp) (is_same cmp)
   law = order_law cmp order exact
 
   -- how often, as `times` has it
-  abbrev count : E → List E → ℕ
+  abbrev pub count : E → List E → ℕ
   count e xs = times (is_same cmp) e xs
 
   -- two lists in order in which each event stands as often are the same

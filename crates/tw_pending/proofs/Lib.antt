@@ -1,1 +1,5 @@
 pub mod Heaps
+pub mod Days
+pub mod Rings
+pub mod All
+pub mod Tops

@@ -1,10 +1,11 @@
 //! Events that wait, the least first.
 
-ghost use Rattle.std.specs.Prelude.{◌≡◌, ◌+◌, ◌<◌, ◌≤◌, [], IfOk, OnErr, OnOk, drop, length, slice_get};
-ghost use Rattle.std.specs.BinaryHeap.{IsHeap, heap_capacity, heap_items, heap_len};
+ghost use Rattle.std.specs.Prelude.{◌≡◌, [], IfOk, OnErr, OnOk, drop, slice_get};
 ghost use Rattle.tw_sim.specs.Ordered.{insert, insert_all};
-ghost use Rattle.tw_pending.specs.Order.{IsInOrder, in_order, is_before, reversed};
+ghost use Rattle.tw_pending.specs.Order.{IsInOrder, is_before};
 
+use crate::calendar::{go_on, put, put_each, take_top};
+use crate::ring::{DAYS, Ring};
 use std::alloc::{AllocError, Global};
 use std::cmp::Reverse;
 use std::collections::BinaryHeap;
@@ -12,31 +13,63 @@ use std::marker::Model;
 use tw_process::Timed;
 
 /// Events that wait, as contracts see them in rising order.
+///
+/// Those of the next ticks may stand in a list for each tick, and all others stand in a heap, which has room for all of
+/// them.
 #[derive(Drop)]
 pub struct Pending<E: Timed> {
     heap: BinaryHeap<Reverse<E>>,
+    ring: Ring<E>,
 }
 
 impl<E: Timed> Model for Pending<E> {
-    ghost use Rattle.std.specs.Prelude.{List};
-    ghost use Rattle.std.specs.BinaryHeap.{IsHeap, heap_items};
-    ghost use Rattle.tw_pending.specs.Order.{in_order, reversed};
+    ghost use Rattle.std.specs.Prelude.{◌≡◌, ◌+◌, ◌≤◌, ◌⊎◌, List};
+    ghost use Rattle.std.specs.BinaryHeap.{IsHeap, heap_capacity, heap_items, heap_len};
+    ghost use Rattle.tw_pending.specs.Order.{reversed};
+    ghost use Rattle.tw_pending.specs.Ring.{IsDue, IsRing, all_in, lists_of};
 
     ghost Value = { List E };
 
-    ghost view = { λ a. in_order E.cmp (heap_items a.heap) };
+    ghost view = { λ a. all_in E.cmp (heap_items a.heap) (lists_of a.ring.days.items) };
 
-    ghost invariant = { λ a. IsHeap (reversed E.cmp) (heap_items a.heap) };
+    ghost invariant = { λ a. IsHeap (reversed E.cmp) (heap_items a.heap)
+        × IsRing E.parts.time a.ring.today a.ring.waiting (lists_of a.ring.days.items)
+        × (heap_len a.heap + a.ring.waiting ≤ heap_capacity a.heap)
+        × ((a.ring.waiting ≡ 0) ⊎ IsDue E.parts.time a.ring.today (heap_items a.heap)) };
 }
 
 impl<E: Timed> Pending<E> {
-    /// No events.
+    /// No events, and no lists of ticks: it takes no memory until an event comes. It suits few events.
     pub fn new(alloc: Global) -> Pending<E>
         ensures { result ≡ [] }
     {
         Pending {
             heap: BinaryHeap::new(alloc),
+            ring: Ring {
+                today: 0,
+                waiting: 0,
+                days: Vec::new(alloc),
+            },
         }
+    }
+
+    /// No events, with lists of ticks. It suits many events, most of them less than 1,024 ticks ahead.
+    pub fn with_ticks(alloc: Global) -> Result<Pending<E>, AllocError>
+        ensures { IfOk result (λ pending. pending ≡ []) }
+    {
+        let mut days = Vec::new(alloc);
+        for _ in 0..DAYS {
+            days.push(Vec::new(alloc))?;
+        }
+        let heap = BinaryHeap::new(alloc);
+        Ok(Pending {
+            heap,
+            ring: Ring {
+                today: 0,
+                waiting: 0,
+                days,
+            },
+        })
     }
 
     /// Adds an event, in its place in the order.
@@ -44,7 +77,12 @@ impl<E: Timed> Pending<E> {
         ensures ok { OnOk result (self.new ≡ insert (is_before E.cmp) event self.old) }
         ensures err { OnErr result (self.new ≡ self.old) }
     {
-        self.heap.push(Reverse(event))?;
+        let Some(room) = self.ring.waiting.checked_add(1) else {
+            return Err(AllocError);
+        };
+        self.heap.reserve(room)?;
+        put(&mut self.heap, &mut self.ring, event);
+        go_on(&mut self.heap, &mut self.ring);
         Ok(())
     }
 
@@ -53,8 +91,12 @@ impl<E: Timed> Pending<E> {
         ensures ok { OnOk result (self.new ≡ insert_all (is_before E.cmp) events.now self.old) }
         ensures err { OnErr result (self.new ≡ self.old) }
     {
-        self.heap.reserve(events.len())?;
-        push_each(&mut self.heap, events);
+        let Some(room) = self.ring.waiting.checked_add(events.len()) else {
+            return Err(AllocError);
+        };
+        self.heap.reserve(room)?;
+        put_each(&mut self.heap, &mut self.ring, events);
+        go_on(&mut self.heap, &mut self.ring);
         Ok(())
     }
 
@@ -65,13 +107,18 @@ impl<E: Timed> Pending<E> {
         ensures ok { OnOk result (self.new ≡ insert_all (is_before E.cmp) events.now (drop 1 self.old)) }
         ensures err { OnErr result (self.new ≡ self.old) }
     {
-        self.heap.reserve(events.len())?;
-        pop_least(&mut self.heap);
-        push_each(&mut self.heap, events);
+        let Some(room) = self.ring.waiting.checked_add(events.len()) else {
+            return Err(AllocError);
+        };
+        self.heap.reserve(room)?;
+        let _ = take_top(&mut self.heap, &self.ring);
+        put_each(&mut self.heap, &mut self.ring, events);
+        go_on(&mut self.heap, &mut self.ring);
         Ok(())
     }
 
     /// The least event.
+    #[inline(always)]
     pub fn least(&self) -> Option<E>
         ensures first { result ≡ slice_get self.now 0 }
         ensures order { IsInOrder E.cmp self.now }
@@ -85,34 +132,8 @@ impl<E: Timed> Pending<E> {
         ensures first { result ≡ slice_get self.old 0 }
         ensures rest { self.new ≡ drop 1 self.old }
     {
-        let top = self.heap.pop()?;
-        Some(top.0)
-    }
-}
-
-/// Takes out the least event of a heap, where there is one.
-#[inline(always)]
-fn pop_least<E: Timed>(heap: &mut BinaryHeap<Reverse<E>>)
-    requires { IsHeap (reversed E.cmp) (heap_items heap.old) }
-    ensures heap { IsHeap (reversed E.cmp) (heap_items heap.new) }
-    ensures rest { in_order E.cmp (heap_items heap.new) ≡ drop 1 (in_order E.cmp (heap_items heap.old)) }
-    ensures len { heap_len heap.new ≤ heap_len heap.old }
-    ensures capacity { heap_capacity heap.new ≡ heap_capacity heap.old }
-{
-    let Some(_) = heap.pop() else {
-        return;
-    };
-}
-
-/// Adds events to a heap that has room for them.
-#[inline(always)]
-fn push_each<E: Timed>(heap: &mut BinaryHeap<Reverse<E>>, events: &[E])
-    requires room { heap_len heap.old + length events.now ≤ heap_capacity heap.old }
-    requires heap { IsHeap (reversed E.cmp) (heap_items heap.old) }
-    ensures heap { IsHeap (reversed E.cmp) (heap_items heap.new) }
-    ensures events { in_order E.cmp (heap_items heap.new) ≡ insert_all (is_before E.cmp) events.now (in_order E.cmp (heap_items heap.old)) }
-{
-    for event in events {
-        heap.push(Reverse(*event)).unwrap();
+        let least = take_top(&mut self.heap, &self.ring);
+        go_on(&mut self.heap, &mut self.ring);
+        least
     }
 }

@@ -1,11 +1,23 @@
-use Rattle.std.proofs.Common.{ap, ◌∙◌}
-use Rattle.std.specs.BinaryHeap.{heap_items}
+use Rattle.std.proofs.Common.{◌≡◌, ◌⊎◌, ap, sym, subst, ◌∙◌, arith}
+use Rattle.std.specs.BinaryHeap.{IsHeap}
 use Rattle.tw_sim.specs.Ordered.{insert}
-use Rattle.tw_pending.specs.Order.{is_before}
-use Rattle.tw_pending.proofs.Heaps.{put}
+use Rattle.tw_pending.specs.Order.{is_before, reversed}
+use Rattle.tw_pending.specs.Ring.{IsDue, all_in, lists_of}
 use Rattle.tw_pending.proofs.pending.Pending.insert.Goals as goal
+
+pub invariant_of-self : goal.invariant_of-self
+invariant_of-self g c =
+    let a = c.self.inside in
+    let v = c.self.invariant in
+    let r = c.in_err-reserve.ensures in (
+      subst (IsHeap (reversed g.E.Ord.cmp)) (sym r.items) v.0,
+      v.1,
+      omega (arith, v.2, r.len, r.capacity),
+      subst (λ items. (a.ring.waiting ≡ 0) ⊎ IsDue g.E.Timed.parts.time a.ring.today items) (sym r.items) v.3,
+    )
 
 pub returns-clause-ok : goal.returns-clause-ok
 returns-clause-ok g c =
-    put g.E.Ord.cmp g.met.E.Ord.total g.met.E.Timed.exact _ (heap_items c.self.inside.heap) (heap_items c.push.new.self) c.in_ok-push.ensures.permutation
-    ∙ ap (insert (is_before g.E.Ord.cmp) c.args.event) c.self.view_is
+    c.go_on.ensures.all
+    ∙ (c.put.ensures.all
+    ∙ ap (insert (is_before g.E.Ord.cmp) c.args.event) (ap (λ items. all_in g.E.Ord.cmp items (lists_of c.self.inside.ring.days.items)) c.in_ok-reserve.ensures.items ∙ c.self.view_is))
