@@ -1,12 +1,12 @@
 -- The lines of processes, one after the other, and the checksum of their states.
-use Rattle.std.proofs.Common.{◌≡◌, ℕ, ◌+◌, ◌<◌, ◌≤◌, List, [], ◌∷◌, ◌++◌, drop, length, map, ap, sym, ◌∙◌, subst, arith}
+use Rattle.std.proofs.Common.{◌≡◌, ℕ, ◌+◌, ◌<◌, ◌≤◌, List, [], ◌∷◌, ◌++◌, drop, length, map, ap, ◌∙◌, arith}
 use Rattle.std.proofs.lemmas.List.{drop_all, drop_more}
 use Rattle.std.proofs.lemmas.List.FromFn.{get_or-range_with_len, length-range_with_len, map-range_with_len_more}
 use Rattle.std.proofs.lemmas.List.Sums.{fold-append}
 use Rattle.std.specs.List.{flat_map, range_with_len}
 use Rattle.tw_phold.specs.Phold.{Job, checksum, mixed_in}
 use Rattle.tw_phold.specs.declared.phold.Phold.{Phold}
-use Rattle.twarp_phold.specs.Report.{knows, process_line, process_lines}
+use Rattle.twarp_phold.specs.Report.{knows, process_line}
 
 module _ (m : Phold) (jobs : List Job) where
   -- the lines of the processes from this one on

@@ -1,8 +1,8 @@
-use Rattle.std.proofs.Common.{[], ◌∷◌, ◌++◌, codes}
+use Rattle.std.proofs.Common.{[], ◌∷◌, codes}
 use Rattle.std.specs.Fmt.{decimal}
 use Rattle.tw_device.proofs.Puts.{puts_failed, puts_then}
 use Rattle.tw_report.specs.Words.{line}
-use Rattle.twarp_phold.specs.Report.{checksum_after, process_lines, text_after}
+use Rattle.twarp_phold.specs.Report.{process_lines, text_after}
 use Rattle.twarp_phold.proofs.report.write_report.Goals as goal
 
 pub returns-in_err-put_line : goal.returns-in_err-put_line
