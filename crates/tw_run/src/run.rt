@@ -1,19 +1,19 @@
 //! The command `run`: from the text of a case to its report.
-ghost use Rattle.std.specs.Prelude.{◌≡◌, ◌<◌, ℕ, false, IfErr, IfOk, OnOk, Some};
+ghost use Rattle.std.specs.Prelude.{◌≡◌, ◌<◌, ℕ, false, IfErr, IfOk, None, OnOk, Some};
 ghost use Rattle.tw_commands.specs.Seq.{GetsStuckFor, seq_output, seq_report};
 ghost use Rattle.tw_device.specs.Source.{LosesInput, TakesInput};
 ghost use Rattle.tw_run.specs.Asked.{IsReady};
 ghost use Rattle.tw_run.specs.Ran.{HasRunAnew, HasStoppedBy, IsRunBy, IsRunByAny, IsRunOf, MayStop, MayStopAlone, MayStopBy};
 ghost use Rattle.tw_run.specs.Threaded.{AnswersThreaded, LeavesThreaded, LeavesThreadedFor};
 ghost use Rattle.tw_run.specs.declared.ran.By.TheVariants as by;
-ghost use Rattle.tw_seq.specs.Run.{GetsStuck};
+ghost use Rattle.tw_seq.specs.Run.{GetsStuck, complete_run};
 
 use crate::cause::Stopped;
 use crate::chosen::{Come, run_to_stop};
 use crate::dealing::{Dealing, open_dealt};
 use crate::ran::{By, Ran, left_alone, left_by};
 use crate::segments::{handled_by, run_through};
-use std::alloc::Global;
+use std::alloc::{AllocError, Global};
 use std::snapshot::Snapshot;
 use std::sync::Wait;
 use std::thread::Threads;
@@ -24,6 +24,7 @@ use tw_instance::Case;
 use tw_model::OrMemory;
 use tw_parallel::{Gate, Sim};
 use tw_report::write_report;
+use tw_seq::TracedRun;
 use tw_shape::Verdict;
 use tw_sim::Cancel;
 use tw_text::read_case;
@@ -186,13 +187,25 @@ fn run_chosen<'a, X: Threads + Wait + Sync + Clock, O: Progress + Stages + Gate 
         return run_alone(alloc, case, asked, observer);
     }
     match run_to_stop(rt, alloc, case, asked, observer)? {
-        Come::Alone(run) => Ok(left_alone(run.run().outcome_without_events()?, None)),
+        Come::Alone(run) => Ok(left_at_stop(case, asked, &run)?),
         Come::ByAll(sim) => Ok(left_by(sim, None, asked.log)?),
         Come::Ended => {
             observer.begins_anew();
             run_alone(alloc, case, asked, observer)
         }
     }
+}
+
+/// What a run of the case on one thread leaves that has come to the stop. Its events are not listed, and nothing was
+/// found on the way.
+fn left_at_stop<'a>(case: &Case, asked: Asked, run: &TracedRun<'_>) -> Result<Ran<'a>, AllocError>
+    requires complete { run.now.run ≡ complete_run case.now asked.stop }
+    requires log { asked.log ≡ false }
+    requires every { asked.every ≡ None }
+    ensures ran { IfOk result (λ ran. IsRunOf case.now asked ran) }
+    ensures by { IfOk result (λ ran. ran.by ≡ by.OneThread) }
+{
+    Ok(left_alone(run.run().outcome_without_events()?, None))
 }
 
 /// Runs a case to the stop by so many workers, and on one thread only where these have met a full counter.
