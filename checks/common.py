@@ -22,6 +22,7 @@ STRAGGLER = CASES / "straggler.replay"
 GOOD_GADGET = CASES / "good-gadget.spp"
 PROGRAM = TOP / "crates/twarp/out/twarp"
 POLICY = TOP / "crates/twarp_policy/out/twarp_policy"
+PHOLD = TOP / "crates/twarp_phold/out/twarp_phold"
 REPORT = TOP / "crates/twarp/stdout"
 REPLAYED = INPUTS / "straggler-replay.txt"
 ROWS = (

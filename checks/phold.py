@@ -16,9 +16,8 @@ import sys
 from collections.abc import Iterator
 from dataclasses import dataclass
 
-from common import TOP
+from common import PHOLD
 
-PROGRAM = TOP / "crates/twarp_phold/out/twarp_phold"
 MASK = 2**64 - 1
 GAMMA = 0x9E3779B97F4A7C15
 TRIALS = (
@@ -109,7 +108,7 @@ def main() -> int:
         return 0
     failed = 0
     for trial in TRIALS:
-        ended = subprocess.run([PROGRAM, "seq", *trial.split()], stdout=subprocess.PIPE, text=True, check=False)
+        ended = subprocess.run([PHOLD, "seq", *trial.split()], stdout=subprocess.PIPE, text=True, check=False)
         own = text_of(options_of(trial.split()))
         is_same = ended.stdout == own and ended.returncode == own.startswith("refused")
         print("passed" if is_same else "FAILED", trial)

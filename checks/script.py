@@ -1,5 +1,5 @@
 #!/usr/bin/env python3
-"""Tests the scripts twarp and twarp-policy with stand-ins for rt and rattle: nothing is proved or built.
+"""Tests the scripts twarp, twarp-policy and twarp-phold with stand-ins for rt and rattle: nothing is proved or built.
 
     script.py                        takes some seconds
 """
@@ -67,11 +67,11 @@ while [ "$1" != -o ]; do shift; done
 printf '#!/bin/sh\necho proved "$@"\nexit 3\n' >"$2"
 chmod +x "$2"
 """
-CRATES = "# the crates\ntw_low:\ntw_high: tw_low\ntwarp: clap tw_low tw_high # the program\ntwarp_policy: tw_low\ntw_rows: tw_low\n"
+CRATES = "# the crates\ntw_low:\ntw_high: tw_low\ntwarp: clap tw_low tw_high # the program\ntwarp_policy: tw_low\ntwarp_phold: tw_low\ntw_rows: tw_low\n"
 # The calls of a build where nothing is kept.
 ALL = ["rattle tw_low", "rattle tw_high", "rattle twarp", "link"]
 NO_TOOLCHAIN = "/usr/bin:/bin"
-SCRIPTS = "twarp", "twarp-policy"
+SCRIPTS = "twarp", "twarp-policy", "twarp-phold"
 
 # Seconds after which the script is given up.
 LIMIT = 300
@@ -86,7 +86,7 @@ class ScriptTest(unittest.TestCase):
         for name in SCRIPTS:
             shutil.copy(TOP / name, self.clone, follow_symlinks=False)
         (self.clone / "crates.txt").write_text(CRATES)
-        for crate in "tw_low", "tw_high", "twarp", "twarp_policy":
+        for crate in "tw_low", "tw_high", "twarp", "twarp_policy", "twarp_phold":
             for part in "src", "specs", "proofs":
                 (self.clone / "crates" / crate / part).mkdir(parents=True)
         (self.kit / "bin").mkdir(parents=True)
@@ -147,17 +147,20 @@ class ScriptTest(unittest.TestCase):
     def test_each_program_has_its_own_script(self) -> None:
         self.assert_ended(self.run_script("--build"), 0, "")
         self.assertEqual(self.calls(), ALL)
-        done = self.run_script("safe", "x", name="twarp-policy")
-        self.assert_ended(done, 3, "proved safe x\n")
-        self.assertRegex(done.err, r"^twarp-policy: proving and building the program: 2 crates")
-        # What the build of twarp has proved is not proved again.
-        self.assertEqual(self.calls(), ["rattle twarp_policy", "link"])
-        self.assertEqual(self.run_script("safe", name="twarp-policy"), Done(3, "proved safe\n", ""))
-        self.assertEqual(self.run_script("seq"), Done(3, "proved seq\n", ""))
-        self.assertEqual(self.calls(), [])
-        done = self.run_script("--try", "check", name="twarp-policy")
-        self.assert_ended(done, 0, "words check\n")
-        self.assertRegex(done.err, r"^twarp-policy: this run is not proved.*\./twarp-policy --build")
+        for name, crate in ("twarp-policy", "twarp_policy"), ("twarp-phold", "twarp_phold"):
+            with self.subTest(name):
+                done = self.run_script("seq", "x", name=name)
+                self.assert_ended(done, 3, "proved seq x\n")
+                self.assertRegex(done.err, rf"^{name}: proving and building the program: 2 crates")
+                # What the build of twarp has proved is not proved again.
+                self.assertEqual(self.calls(), [f"rattle {crate}", "link"])
+                self.assertEqual(self.run_script("seq", name=name), Done(3, "proved seq\n", ""))
+                self.assertEqual(self.run_script("seq"), Done(3, "proved seq\n", ""))
+                self.assertEqual(self.calls(), [])
+                done = self.run_script("--try", "check", name=name)
+                self.assert_ended(done, 0, "words check\n")
+                self.assertRegex(done.err, rf"^{name}: this run is not proved.*\./{name} --build")
+                self.calls()
 
     def test_a_run_without_proofs_has_the_programs_ends(self) -> None:
         done = self.run_script("--try", "check", "a  b", "")

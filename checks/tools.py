@@ -1,12 +1,13 @@
 #!/usr/bin/env python3
 """Tests the programs in tools/ and the commands of docs/TUTORIAL.md, on the built program.
 
-    checks/tools.py [--program FILE] [--policy FILE] [WORD ..]    once `rt ci`, or `./twarp --build`, has built it
-    checks/tools.py --no-program [WORD ..]                        leaves out what needs the programs
+    checks/tools.py [--program FILE] [--policy FILE] [--phold FILE] [WORD ..]
+                                              once `rt ci`, or `./twarp --build`, has built it
+    checks/tools.py --no-program [WORD ..]    leaves out what needs the programs
 
---policy names twarp-policy; what needs it is left out where it is not there. WORD picks the tests whose names have it. The last line is 'N passed, M failed'; what needs
-Graphviz or Chromium is left out where that is not installed, and a line says so. The inputs are in
-checks/inputs.
+--policy names twarp-policy, and --phold twarp-phold; what needs one is left out where it is not there. WORD picks the
+tests whose names have it. The last line is 'N passed, M failed'; what needs Graphviz or Chromium is left out where that
+is not installed, and a line says so. The inputs are in checks/inputs.
 """
 from __future__ import annotations
 
@@ -25,6 +26,7 @@ import tools_import
 import tools_install
 import tools_package
 import tools_page
+import tools_phold
 import tools_policy
 import tools_relationships
 import tools_sweep
@@ -45,6 +47,7 @@ MODULES = (
     tools_cases,
     tools_versions,
     tools_policy,
+    tools_phold,
     tools_tutorial,
     tools_install,
     tools_bench,
@@ -66,14 +69,18 @@ def main() -> None:
     parser.add_argument("words", metavar="WORD", nargs="*")
     parser.add_argument("--program", type=Path, default=tools_common.program)
     parser.add_argument("--policy", type=Path, default=tools_common.policy)
+    parser.add_argument("--phold", type=Path, default=tools_common.phold)
     parser.add_argument("--no-program", dest="program", action="store_const", const=None)
     line = parser.parse_args()
     tools_common.program = line.program and line.program.absolute()
     tools_common.policy = line.program and line.policy and line.policy.absolute()
+    tools_common.phold = line.program and line.phold and line.phold.absolute()
     if line.program:
         need(line.program, "./twarp --build")
     if tools_common.policy:
         need(tools_common.policy, "./twarp-policy --build")
+    if tools_common.phold:
+        need(tools_common.phold, "./twarp-phold --build")
     run_tests(all_tests(line.words))
 
 

@@ -12,7 +12,7 @@ from pathlib import Path
 from typing import Any
 from xml.etree import ElementTree
 
-from common import CASES, INPUTS, POLICY, PROGRAM, TOP
+from common import CASES, INPUTS, PHOLD, POLICY, PROGRAM, TOP
 
 HAS_GRAPHVIZ = shutil.which("dot") is not None
 needs_graphviz = unittest.skipUnless(HAS_GRAPHVIZ, "Graphviz is not installed")
@@ -21,6 +21,7 @@ needs_graphviz = unittest.skipUnless(HAS_GRAPHVIZ, "Graphviz is not installed")
 # them is left out.
 program: Path | None = PROGRAM
 policy: Path | None = POLICY if POLICY.exists() else None
+phold: Path | None = PHOLD if PHOLD.exists() else None
 # Tests that do not name twarp-policy are the same where it is built.
 os.environ["TWARP_POLICY"] = os.devnull
 
@@ -92,6 +93,12 @@ def need_policy() -> Path:
     if policy is None:
         raise unittest.SkipTest("it needs the program twarp-policy")
     return policy
+
+
+def need_phold() -> Path:
+    if phold is None:
+        raise unittest.SkipTest("it needs the program twarp-phold")
+    return phold
 
 
 def twarp(*words: object, stdin: str) -> str:

@@ -6,7 +6,7 @@
 Where no crate is named, these are all that have some. A wrong body is a file NAME.edit in a
 crate's must-fail/, or stands in wrong-bodies/, in MODULE.edits, behind a line `body: NAME`, up to
 the next one. `file:` names a file of the crate, also for the bodies that follow, and each pair of
-lines `old:`, `new:` puts one text in place of another that stands in it once.
+lines `old:`, `new:` puts one text in place of another that stands in it once, or else is the whole of one line.
 
 A function's proof rests on the contracts of what it calls and not on their bodies, and nothing
 calls a function that is new. So a wrong body is tried as a function of its own: a copy of the one
@@ -129,11 +129,15 @@ class WrongBody:
         changed: Texts = {}
         for file, old, new in self.changes:
             text = changed.get(file) or texts.get(file) or read(file)
-            if text.count(old) != 1:
+            lines = text.split("\n")
+            if text.count(old) == 1:
+                changed[file] = text.replace(old, new)
+            elif lines.count(old) == 1:
+                changed[file] = "\n".join(new if line == old else line for line in lines)
+            else:
                 raise DoesNotApply(
                     f"an 'old:' text is in {file} {text.count(old)} times, and not once"
                 )
-            changed[file] = text.replace(old, new)
         return changed
 
     def functions(self, read: Read) -> list[tuple[str, Function]]:

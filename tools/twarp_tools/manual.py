@@ -1,6 +1,6 @@
 """Writes the man page twarp(1), man, or completions for a shell on standard output, made of what twarp --help and the
---help of each command say; or twarp(5), formats, made of docs/FORMATS.md. Where --program names twarp-policy the page is
-twarp-policy(1), and the completions are its own.
+--help of each command say; or twarp(5), formats, made of docs/FORMATS.md. Where --program names twarp-policy or
+twarp-phold the page is twarp-policy(1) or twarp-phold(1), and the completions are its own.
 
 examples:
   tools/manual man > twarp.1 && man -l twarp.1
@@ -178,13 +178,15 @@ def page_lines(manual: Manual) -> Iterator[str]:
 
 
 def man_page(manual: Manual) -> str:
-    # What the other program does.
-    others = {
-        "twarp": ["\\fBtwarp\\-policy\\fR(1) judges a case for all timings.", ".PP"],
-        "twarp-policy": ["\\fBtwarp\\fR(1) runs a case.", ".PP"],
+    # What the other programs do.
+    programs = {
+        "twarp": "\\fBtwarp\\fR(1) runs a case.",
+        "twarp-policy": "\\fBtwarp\\-policy\\fR(1) judges a case for all timings.",
+        "twarp-phold": "\\fBtwarp\\-phold\\fR(1) runs PHOLD, the usual workload of parallel simulators.",
     }
+    others = [line for name, said in programs.items() if name != manual.name for line in (said, ".PP")]
     see = "\\fBtwarp\\fR(5) has the texts, the codes of what is refused, and the exit statuses."
-    return "\n".join([*page_lines(manual), ".SH SEE ALSO", *others.get(manual.name, []), see, ""])
+    return "\n".join([*page_lines(manual), ".SH SEE ALSO", *others, see, ""])
 
 
 def formats_page(manual: Manual) -> str:

@@ -6,7 +6,7 @@ ghost use Rattle.tw_model.specs.Case.{simulation};
 ghost use Rattle.tw_model.specs.declared.limits.TheConstants.{LATEST};
 ghost use Rattle.tw_report.specs.ReplayText.{replayed_of};
 ghost use Rattle.tw_warp.specs.Openings.{opening_machine};
-ghost use Rattle.tw_warp.specs.Warp.{core};
+ghost use Rattle.tw_warp.specs.Warp.{warp_core};
 
 use crate::no_memory::NoMemory;
 use std::alloc::{AllocError, Global};
@@ -43,7 +43,7 @@ fn take_steps<'a>(
 ) -> Result<(Warp<'a>, Vec<Answer>), NoMemory>
     requires stop { stop ≤ LATEST }
     requires workers { 0 < workers }
-    ensures machine { IfOk result (λ after. core after.0 ≡ run (simulation case.now) (opening_machine case.now cancel stop) steps.now) }
+    ensures machine { IfOk result (λ after. warp_core after.0 ≡ run (simulation case.now) (opening_machine case.now cancel stop) steps.now) }
     ensures answers { IfOk result (λ after. after.1.items ≡ answers (simulation case.now) (opening_machine case.now cancel stop) steps.now) }
     ensures case { IfOk result (λ after. after.0.case ≡ case.now) }
     ensures workers { IfOk result (λ after. length after.0.shards ≡ workers) }
@@ -55,7 +55,7 @@ fn take_steps<'a>(
 
 /// What a machine that has answered so tells of itself.
 fn told(warp: &Warp<'_>, answers: Vec<Answer>) -> Result<Replay, AllocError>
-    ensures { IfOk result (λ replay. replayed_of replay ≡ told_of warp.now.case (core warp.now) answers.items) }
+    ensures { IfOk result (λ replay. replayed_of replay ≡ told_of warp.now.case (warp_core warp.now) answers.items) }
 {
     let committed = warp.committed()?;
     let routers = warp.router_ends()?;
@@ -70,7 +70,7 @@ fn told(warp: &Warp<'_>, answers: Vec<Answer>) -> Result<Replay, AllocError>
 
 /// How many messages and events a machine has.
 fn counts(warp: &Warp<'_>) -> Counts
-    ensures { result ≡ counts_of warp.now.case (core warp.now) }
+    ensures { result ≡ counts_of warp.now.case (warp_core warp.now) }
 {
     Counts {
         flight: warp.flight_len(),

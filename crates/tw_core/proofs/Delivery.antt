@@ -5,7 +5,7 @@ use Rattle.tw_core.proofs.RollBack.{back_while, left_fails, taken_back, undoing_
 use Rattle.tw_core.proofs.Counts.{antimessages-append, antimessages-remove, in_flight, messages-append, messages-remove}
 use Rattle.tw_core.specs.Good.{IsGoodPart}
 use Rattle.tw_core.specs.Machine.{Core, antimessages, messages, times_handled, times_loose}
-use Rattle.tw_core.specs.Parts.{KeepsPart}
+use Rattle.tw_core.specs.Parts.{PreservesPart}
 use Rattle.tw_core.specs.Steps.{after_delivery, after_undoing_while, take_out}
 use Rattle.tw_sim.proofs.Counts.{none, one_cases, times-insert, times-take_out}
 use Rattle.tw_sim.specs.declared.machine.Signed.{Signed}
@@ -24,7 +24,7 @@ module _ {S E : Type 0} (m : Simulation S E) (law : IsLawful m) where
   module _ (t : ℕ) (C : Core E) (good : IsGoodPart m t C) (k : ℕ) (e : E) where
     -- a message for which an antimessage is kept
     meets_kept : slice_get C.flight k ≡ Some (record { plus = true; event = e }) → 0 < times m e C.kept
-        → KeepsPart m t C (record C { kept = take_out m e C.kept; flight = remove C.flight k })
+        → PreservesPart m t C (record C { kept = take_out m e C.kept; flight = remove C.flight k })
     meets_kept place there = record {
       part = part_loose t C C.pending (take_out m e C.kept) (remove C.flight k) good
           (λ x h. (
@@ -75,7 +75,7 @@ module _ {S E : Type 0} (m : Simulation S E) (law : IsLawful m) where
 
     -- a message for which none is kept becomes pending
     becomes_pending : slice_get C.flight k ≡ Some (record { plus = true; event = e }) → times m e C.kept ≡ 0
-        → KeepsPart m t C (record (B (λ x. m.before e x)) { pending = insert m e (B (λ x. m.before e x)).pending; flight = remove C.flight k ++ back (λ x. m.before e x) })
+        → PreservesPart m t C (record (B (λ x. m.before e x)) { pending = insert m e (B (λ x. m.before e x)).pending; flight = remove C.flight k ++ back (λ x. m.before e x) })
     becomes_pending place none_kept =
         let test : E → Bool = λ x. m.before e x in
         let late : t ≤ m.time e = good.late e (let k = in_flight m law C.flight k (record { plus = true; event = e }) place in omega arith) in
@@ -96,7 +96,7 @@ module _ {S E : Type 0} (m : Simulation S E) (law : IsLawful m) where
 
     -- an antimessage whose event is pending
     meets_pending : slice_get C.flight k ≡ Some (record { plus = false; event = e }) → 0 < times m e C.pending
-        → KeepsPart m t C (record C { pending = take_out m e C.pending; flight = remove C.flight k })
+        → PreservesPart m t C (record C { pending = take_out m e C.pending; flight = remove C.flight k })
     meets_pending place there = record {
       part = part_loose t C (take_out m e C.pending) C.kept (remove C.flight k) good
           (λ x h. (
@@ -124,7 +124,7 @@ module _ {S E : Type 0} (m : Simulation S E) (law : IsLawful m) where
 
     -- an antimessage whose event is handled
     meets_handled : slice_get C.flight k ≡ Some (record { plus = false; event = e }) → 0 < times_handled m C e
-        → KeepsPart m t C (record (B (λ x. not (m.before x e))) { pending = take_out m e (B (λ x. not (m.before x e))).pending; flight = remove C.flight k ++ back (λ x. not (m.before x e)) })
+        → PreservesPart m t C (record (B (λ x. not (m.before x e))) { pending = take_out m e (B (λ x. not (m.before x e))).pending; flight = remove C.flight k ++ back (λ x. not (m.before x e)) })
     meets_handled place handled =
         let test : E → Bool = λ x. not (m.before x e) in
         let late : t ≤ m.time e = good.late e (let k = in_flight m law C.flight k (record { plus = false; event = e }) place in omega arith) in
@@ -148,7 +148,7 @@ module _ {S E : Type 0} (m : Simulation S E) (law : IsLawful m) where
 
     -- an antimessage that comes before its message
     becomes_kept : slice_get C.flight k ≡ Some (record { plus = false; event = e }) → times m e C.pending ≡ 0 → times_handled m C e ≡ 0
-        → KeepsPart m t C (record C { kept = insert m e C.kept; flight = remove C.flight k })
+        → PreservesPart m t C (record C { kept = insert m e C.kept; flight = remove C.flight k })
     becomes_kept place none_pending none_handled = record {
       part = part_loose t C C.pending (insert m e C.kept) (remove C.flight k) good
           (λ x h. (
@@ -173,14 +173,14 @@ module _ {S E : Type 0} (m : Simulation S E) (law : IsLawful m) where
       cancel = refl;
     }
 
-    delivered_message : slice_get C.flight k ≡ Some (record { plus = true; event = e }) → KeepsPart m t C (after_delivery m C k (record { plus = true; event = e }))
+    delivered_message : slice_get C.flight k ≡ Some (record { plus = true; event = e }) → PreservesPart m t C (after_delivery m C k (record { plus = true; event = e }))
     delivered_message place =
         elim (cases_Bool (nat_lt 0 (times m e C.kept))) [
           | inl b ↦ rw b (meets_kept place (ltb-true 0 (times m e C.kept) b))
           | inr b ↦ grind (arith, apart, becomes_pending, none, ltb-false)
         ]
 
-    delivered_antimessage : slice_get C.flight k ≡ Some (record { plus = false; event = e }) → KeepsPart m t C (after_delivery m C k (record { plus = false; event = e }))
+    delivered_antimessage : slice_get C.flight k ≡ Some (record { plus = false; event = e }) → PreservesPart m t C (after_delivery m C k (record { plus = false; event = e }))
     delivered_antimessage place =
         elim (cases_Bool (nat_lt 0 (times m e C.pending))) [
           | inl b ↦ rw b (meets_pending place (ltb-true 0 (times m e C.pending) b))
@@ -188,10 +188,10 @@ module _ {S E : Type 0} (m : Simulation S E) (law : IsLawful m) where
         ]
 
   by_sign : (t : ℕ) (C : Core E) (k : ℕ) (plus : Bool) (e : E) → IsGoodPart m t C → slice_get C.flight k ≡ Some (record { plus = plus; event = e })
-      → KeepsPart m t C (after_delivery m C k (record { plus = plus; event = e }))
+      → PreservesPart m t C (after_delivery m C k (record { plus = plus; event = e }))
   by_sign t C k true e good place = delivered_message t C good k e place
   by_sign t C k false e good place = delivered_antimessage t C good k e place
 
   -- whichever message arrives
-  pub delivered : (t : ℕ) (C : Core E) (k : ℕ) (x : Signed E) → IsGoodPart m t C → slice_get C.flight k ≡ Some x → KeepsPart m t C (after_delivery m C k x)
+  pub delivered : (t : ℕ) (C : Core E) (k : ℕ) (x : Signed E) → IsGoodPart m t C → slice_get C.flight k ≡ Some x → PreservesPart m t C (after_delivery m C k x)
   delivered t C k x good place = by_sign t C k x.plus x.event good place

@@ -5,7 +5,7 @@ use Rattle.std.specs.List.{AllByRecursion}
 use Rattle.std.specs.Option.{option_map_or}
 use Rattle.tw_core.proofs.Sums.{all_both, all_map, total_zero}
 use Rattle.tw_core.specs.Machine.{Core}
-use Rattle.tw_core.specs.Parts.{Part, at_owner, owner, total}
+use Rattle.tw_core.specs.Parts.{Part, at_owner, owning_part, total}
 use Rattle.tw_sim.proofs.Counts.{none}
 
 module _ {E : Type 0} (r : ℕ) where
@@ -18,23 +18,23 @@ module _ {E : Type 0} (r : ℕ) where
   unowned (p ∷ parts) h = ((λ b. let k = rw b at h in omega arith), unowned parts (omega arith))
 
   -- the one owner is found
-  pub owner_is : (parts : List (Part E)) → total owning parts ≡ 1 → AllByRecursion (λ p. p.owns r ≡ true → owner r parts ≡ Some p) parts
+  pub owner_is : (parts : List (Part E)) → total owning parts ≡ 1 → AllByRecursion (λ p. p.owns r ≡ true → owning_part r parts ≡ Some p) parts
   owner_is [] h = tt
   owner_is (p ∷ parts) h =
       elim (cases_Bool (p.owns r)) [
         | inl b ↦
             let rest : total owning parts ≡ 0 = (let k = rw b at h in omega arith) in
-            ((λ k. rw b refl), all_map (λ q. q.owns r ≡ true → ⊥) (λ q. q.owns r ≡ true → owner r (p ∷ parts) ≡ Some q) (λ q no k. absurd (no k)) parts (unowned parts rest))
+            ((λ k. rw b refl), all_map (λ q. q.owns r ≡ true → ⊥) (λ q. q.owns r ≡ true → owning_part r (p ∷ parts) ≡ Some q) (λ q no k. absurd (no k)) parts (unowned parts rest))
         | inr b ↦
             let rest : total owning parts ≡ 1 = (let k = rw b at h in omega arith) in (
               (λ k. absurd (both_ways (p.owns r) b k)),
-              all_map (λ q. q.owns r ≡ true → owner r parts ≡ Some q) (λ q. q.owns r ≡ true → owner r (p ∷ parts) ≡ Some q) (λ q found k. rw b (found k)) parts (owner_is parts rest),
+              all_map (λ q. q.owns r ≡ true → owning_part r parts ≡ Some q) (λ q. q.owns r ≡ true → owning_part r (p ∷ parts) ≡ Some q) (λ q found k. rw b (found k)) parts (owner_is parts rest),
             )
       ]
 
   -- what only the owner has is the sum over all
   pub owned : (f : Part E → ℕ) (parts : List (Part E)) → total owning parts ≡ 1 → AllByRecursion (λ p. 0 < f p → p.owns r ≡ true) parts
-      → total f parts ≡ option_map_or f (owner r parts) 0
+      → total f parts ≡ option_map_or f (owning_part r parts) 0
   owned f [] h only = cc
   owned f (p ∷ parts) h only =
       elim (cases_Bool (p.owns r)) [

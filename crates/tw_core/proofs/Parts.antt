@@ -8,7 +8,7 @@ use Rattle.tw_core.proofs.Owners.{from_owner, owned, owner_is}
 use Rattle.tw_core.proofs.Sums.{all_both, all_map, found_zero, some_of, through, total_add, total_zero}
 use Rattle.tw_core.specs.Good.{IsGood, times_taken_back, times_there}
 use Rattle.tw_core.specs.Machine.{Core, antimessages, messages, times_handled, times_loose}
-use Rattle.tw_core.specs.Parts.{AddUp, IsPart, Part, Shared, assembled, owner, times_wanted, total}
+use Rattle.tw_core.specs.Parts.{AddUp, IsPart, Part, Shared, assembled, owning_part, times_wanted, total}
 use Rattle.tw_sim.proofs.Counts.{in_head, none, times-append}
 use Rattle.tw_sim.specs.declared.machine.Signed.{Signed}
 use Rattle.tw_sim.specs.Simulation.{Simulation, IsFalling, IsLawful, sent, times}
@@ -55,21 +55,21 @@ module _ {S E : Type 0} (m : Simulation S E) where
 
       -- ---- sums
 
-      owned_total : (r : ℕ) (f : Part E → ℕ) → AllByRecursion (IsOwners r f) parts → total f parts ≡ option_map_or f (owner r parts) 0
+      owned_total : (r : ℕ) (f : Part E → ℕ) → AllByRecursion (IsOwners r f) parts → total f parts ≡ option_map_or f (owning_part r parts) 0
       owned_total r f only = grind (arith, cases_lt, owned, all_map, none, total_zero, found_zero)
 
       handled_total : (e : E) → total (λ p. times_handled m p.core e) parts ≡ times_handled m A e
       handled_total e =
           let handled : Part E → ℕ = λ p. times_handled m p.core e in
           owned_total (m.dst e) handled (each (IsOwners (m.dst e) handled) (λ p is h. there p (m.dst e) e is h))
-          ∙ sym (through (times m e) (λ p. p.core.history (m.dst e)) (owner (m.dst e) parts) [])
+          ∙ sym (through (times m e) (λ p. p.core.history (m.dst e)) (owning_part (m.dst e) parts) [])
 
       sent_total : (e : E) → total (λ p. times m e (sent m (m.src e) (p.core.history (m.src e)))) parts ≡ times m e (sent m (m.src e) (A.history (m.src e)))
       sent_total e =
           let asked : Part E → ℕ = λ p. times m e (sent m (m.src e) (p.core.history (m.src e))) in
           owned_total (m.src e) asked
           (each (IsOwners (m.src e) asked) (λ p is h. let some = sent_some (m.src e) (p.core.history (m.src e)) e h in there p (m.src e) some.0 is some.1))
-          ∙ sym (through (λ xs. times m e (sent m (m.src e) xs)) (λ p. p.core.history (m.src e)) (owner (m.src e) parts) [])
+          ∙ sym (through (λ xs. times m e (sent m (m.src e) xs)) (λ p. p.core.history (m.src e)) (owning_part (m.src e) parts) [])
 
       pending_total : (e : E) → times m e A.pending ≡ total (λ p. times m e p.core.pending) parts
       pending_total e = times-flat_map e (λ p. p.core.pending) parts
@@ -137,21 +137,21 @@ module _ {S E : Type 0} (m : Simulation S E) where
 
       -- what waits is with the owner of its receiver
       waiting_some : (e : E) (f : Part E → ℕ) (Q : Type 0) → m.dst e < m.routers → ((p : Part E) → 0 < f p → 0 < times m e p.core.pending + times m e p.core.kept)
-          → ((p : Part E) → IsPart m shared p → owner (m.dst e) parts ≡ Some p → 0 < f p → Q) → 0 < total f parts → Q
+          → ((p : Part E) → IsPart m shared p → owning_part (m.dst e) parts ≡ Some p → 0 < f p → Q) → 0 < total f parts → Q
       waiting_some e f Q l waits g h =
           some_of f Q parts
-          (all_both (IsPart m shared) (λ p. p.owns (m.dst e) ≡ true → owner (m.dst e) parts ≡ Some p) (λ p. 0 < f p → Q)
+          (all_both (IsPart m shared) (λ p. p.owns (m.dst e) ≡ true → owning_part (m.dst e) parts ≡ Some p) (λ p. 0 < f p → Q)
           (λ p is found k. g p is (found (is.own.waiting e (waits p k))) k) parts sums.each (owner_is (m.dst e) parts (sums.once (m.dst e) l)))
           h
 
       -- and so is all that is pending for it
-      pending_owner : (e : E) → m.dst e < m.routers → (p : Part E) → owner (m.dst e) parts ≡ Some p → times m e A.pending ≡ times m e p.core.pending
+      pending_owner : (e : E) → m.dst e < m.routers → (p : Part E) → owning_part (m.dst e) parts ≡ Some p → times m e A.pending ≡ times m e p.core.pending
       pending_owner e l p found =
           let pending : Part E → ℕ = λ q. times m e q.core.pending in
           let waiting = each (IsOwners (m.dst e) pending) (λ q is h. (is.own.waiting e (omega arith), l)) in
           pending_total e ∙ (owned_total (m.dst e) pending waiting ∙ ap (λ o. option_map_or pending o 0) found)
 
-      history_owner : (r : ℕ) (p : Part E) → owner r parts ≡ Some p → A.history r ≡ p.core.history r
+      history_owner : (r : ℕ) (p : Part E) → owning_part r parts ≡ Some p → A.history r ≡ p.core.history r
       history_owner r p found = ap (λ o. option_map_or (λ q. q.core.history r) o []) found
 
       loose_suits : (e : E) → 0 < times_loose m A e → m.suits e ≡ true

@@ -4,7 +4,7 @@ use Rattle.std.proofs.lemmas.Bool.{cases_Bool}
 use Rattle.tw_core.proofs.Calls.{moved_undoing, part_undoing, put_same, surplus_undoing}
 use Rattle.tw_core.specs.Good.{IsGoodPart}
 use Rattle.tw_core.specs.Machine.{Core, times_handled}
-use Rattle.tw_core.specs.Parts.{KeepsPart}
+use Rattle.tw_core.specs.Parts.{PreservesPart}
 use Rattle.tw_core.specs.Steps.{after_undoing, after_undoing_while, sent_back}
 use Rattle.tw_sim.proofs.Counts.{in_head}
 use Rattle.tw_sim.specs.declared.machine.Cancel.{Cancel}
@@ -33,7 +33,7 @@ module _ {S E : Type 0} (m : Simulation S E) where
   -- what undoing some events of a router gives
   pub record IsBack (t : ℕ) (C D : Core E) : Type 0 where
     -- its part and every surplus are kept
-    pub keeps : KeepsPart m t C D
+    pub keeps : PreservesPart m t C D
     pub open keeps use *
     -- what is not handled any more is pending
     pub moved : (x : E) → times_handled m D x + times m x D.pending ≡ times_handled m C x + times m x C.pending

@@ -11,7 +11,7 @@ use Rattle.tw_core.proofs.Delivery.{delivered}
 use Rattle.tw_core.specs.declared.refusal.Refusal.{Refusal}
 use Rattle.tw_core.specs.Good.{IsGood, IsGoodPart}
 use Rattle.tw_core.specs.Machine.{Core, IsOpening, antimessages, messages, times_loose}
-use Rattle.tw_core.specs.Parts.{KeepsPart}
+use Rattle.tw_core.specs.Parts.{PreservesPart}
 use Rattle.tw_core.specs.Steps.{after_delivery, after_handling, after_undoing, deliver, first_pending, handle, is_newest, least_loose, least_time, next, run, step, undo, with_bound, with_release, with_room}
 use Rattle.tw_sim.proofs.Counts.{in_cons, in_filter, one_self, times-filter-yes}
 use Rattle.tw_sim.proofs.Least.{least_is}
@@ -41,52 +41,52 @@ module _ {S E : Type 0} (m : Simulation S E) (law : IsLawful m) where
         },
       )
 
-  pub keeps_handling : (t : ℕ) (C : Core E) (r : ℕ) (e : E) → IsGoodPart m t C → (m.dst e ≡ r) × MayHandle m C e → KeepsPart m t C (after_handling m C r e)
+  pub keeps_handling : (t : ℕ) (C : Core E) (r : ℕ) (e : E) → IsGoodPart m t C → (m.dst e ≡ r) × MayHandle m C e → PreservesPart m t C (after_handling m C r e)
   keeps_handling t C r e good may = grind (arith, part_handling, surplus_handling)
 
   -- handling, where it is not refused
-  pub handle_keeps : (t : ℕ) (C D : Core E) (r : ℕ) → IsGoodPart m t C → handle m C r (first_pending m C r) ≡ Ok D → KeepsPart m t C D
+  pub handle_keeps : (t : ℕ) (C D : Core E) (r : ℕ) → IsGoodPart m t C → handle m C r (first_pending m C r) ≡ Ok D → PreservesPart m t C D
   handle_keeps t C D r good h =
       let done = handle_done m C D r (first_pending m C r) h in
-      subst (KeepsPart m t C) done.made (keeps_handling t C r done.event good (may_handle t C r done.event good done.found done.soon done.new))
+      subst (PreservesPart m t C) done.made (keeps_handling t C r done.event good (may_handle t C r done.event good done.found done.soon done.new))
 
   -- ---- undo and deliver
 
   -- undoing an event that is not before t
-  pub undoing_keeps : (t : ℕ) (C : Core E) (r : ℕ) (e : E) (older : List E) → t ≤ m.time e → IsGoodPart m t C → C.history r ≡ e ∷ older → KeepsPart m t C (after_undoing m C r e older)
+  pub undoing_keeps : (t : ℕ) (C : Core E) (r : ℕ) (e : E) (older : List E) → t ≤ m.time e → IsGoodPart m t C → C.history r ≡ e ∷ older → PreservesPart m t C (after_undoing m C r e older)
   undoing_keeps t C r e older late good newest = (back_one m law t r C e older newest late good).keeps
 
   -- undoing, where it is not refused
-  pub undo_keeps : (t : ℕ) (C D : Core E) (r : ℕ) → t ≤ C.bound → IsGoodPart m t C → undo m C r (C.history r) ≡ Ok D → KeepsPart m t C D
+  pub undo_keeps : (t : ℕ) (C D : Core E) (r : ℕ) → t ≤ C.bound → IsGoodPart m t C → undo m C r (C.history r) ≡ Ok D → PreservesPart m t C D
   undo_keeps t C D r le good h =
       let done = undo_done m C D r (C.history r) h in
       let late = done.late in
-      subst (KeepsPart m t C) done.made (undoing_keeps t C r done.event done.older (omega arith) good done.newest)
+      subst (PreservesPart m t C) done.made (undoing_keeps t C r done.event done.older (omega arith) good done.newest)
 
-  deliver_at : (t : ℕ) (C D : Core E) (k : ℕ) (o : Option (Signed E)) → IsGoodPart m t C → slice_get C.flight k ≡ o → deliver m C k o ≡ Ok D → KeepsPart m t C D
+  deliver_at : (t : ℕ) (C D : Core E) (k : ℕ) (o : Option (Signed E)) → IsGoodPart m t C → slice_get C.flight k ≡ o → deliver m C k o ≡ Ok D → PreservesPart m t C D
   deliver_at t C D k None good place h = cc
   deliver_at t C D k (Some x) good place h =
       let made : after_delivery m C k x ≡ D = cc in
-      subst (KeepsPart m t C) made (delivered m law t C k x good place)
+      subst (PreservesPart m t C) made (delivered m law t C k x good place)
 
   -- delivering, where there is such a message
-  pub deliver_keeps : (t : ℕ) (C D : Core E) (k : ℕ) → IsGoodPart m t C → deliver m C k (slice_get C.flight k) ≡ Ok D → KeepsPart m t C D
+  pub deliver_keeps : (t : ℕ) (C D : Core E) (k : ℕ) → IsGoodPart m t C → deliver m C k (slice_get C.flight k) ≡ Ok D → PreservesPart m t C D
   deliver_keeps t C D k good h = deliver_at t C D k (slice_get C.flight k) good refl h
 
   -- ---- release and widen
 
   -- what is taken back for a router was held
-  pub release_keeps : (t : ℕ) (C : Core E) (r : ℕ) → IsGoodPart m t C → KeepsPart m t C (with_release m C r)
+  pub release_keeps : (t : ℕ) (C : Core E) (r : ℕ) → IsGoodPart m t C → PreservesPart m t C (with_release m C r)
   release_keeps t C r good = grind (arith, messages-append, messages-antimessage, antimessages-append, antimessages-antimessage, times-from)
 
   -- more room changes nothing else
-  pub widen_keeps : (t : ℕ) (C : Core E) (r : ℕ) → IsGoodPart m t C → KeepsPart m t C (with_room m C r)
+  pub widen_keeps : (t : ℕ) (C : Core E) (r : ℕ) → IsGoodPart m t C → PreservesPart m t C (with_room m C r)
   widen_keeps t C r good = grind arith
 
   -- ---- good
 
   -- good is the part at the bound and the balance, which a surplus that stays keeps
-  good_after : (C D : Core E) → IsGood m C → KeepsPart m C.bound C D → IsGood m D
+  good_after : (C D : Core E) → IsGood m C → PreservesPart m C.bound C D → IsGood m D
   good_after C D good keeps = grind arith
 
   least_time-there : (xs : List E) (t : ℕ) (e : E) → 0 < times m e xs → least_time m xs t ≤ m.time e
@@ -152,7 +152,7 @@ module _ {S E : Type 0} (m : Simulation S E) (law : IsLawful m) where
     pub good : IsGood m D
     pub bound : C.bound ≤ D.bound
 
-  called : (C D : Core E) → IsGood m C → KeepsPart m C.bound C D → StepKeeps C D
+  called : (C D : Core E) → IsGood m C → PreservesPart m C.bound C D → StepKeeps C D
   called C D good keeps = record { good = good_after C D good keeps; bound = (let same = keeps.bound in omega arith) }
 
   -- whichever step

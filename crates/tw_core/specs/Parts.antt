@@ -31,12 +31,12 @@ total f (x ∷ xs) = f x + total f xs
 
 module _ {E : Type 0} where
   -- the part that owns r, if one does
-  abbrev pub owner : ℕ → List (Part E) → Option (Part E)
-  owner r parts = find (λ p. p.owns r) parts
+  abbrev pub owning_part : ℕ → List (Part E) → Option (Part E)
+  owning_part r parts = find (λ p. p.owns r) parts
 
   -- what is read of the owner of r, or none where r has no owner
   abbrev pub at_owner : {X : Type 0} → (Core E → X) → X → List (Part E) → ℕ → X
-  at_owner read none parts r = option_map_or (λ p. read p.core) (owner r parts) none
+  at_owner read none parts r = option_map_or (λ p. read p.core) (owning_part r parts) none
 
   -- the parts and what they share, as one machine
   abbrev pub assembled : Shared E → List (Part E) → Core E
@@ -64,7 +64,7 @@ module _ {S E : Type 0} (m : Simulation S E) where
   SameSurplus C D = (e : E) → times_wanted D e + times_there m C e ≡ times_wanted C e + times_there m D e
 
   -- what a call at some routers keeps of their part of a good state, in which nothing loose was before t
-  pub record KeepsPart (t : ℕ) (C D : Core E) : Type 0 where
+  pub record PreservesPart (t : ℕ) (C D : Core E) : Type 0 where
     -- it is good still, and nothing loose is before t
     pub part : IsGoodPart m t D
     -- and nothing is lost or invented

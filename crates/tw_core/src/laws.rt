@@ -6,7 +6,7 @@ ghost use Rattle.tw_core.specs.declared.refusal.Refusal.TheVariants.{Nothing};
 ghost use Rattle.tw_core.specs.Cut.{IsCut};
 ghost use Rattle.tw_core.specs.Good.{IsGood, IsGoodPart, due};
 ghost use Rattle.tw_core.specs.Machine.{AreCounted, Core, IsOpening, committed};
-ghost use Rattle.tw_core.specs.Parts.{AddUp, IsOwn, KeepsPart, Part, Shared, assembled};
+ghost use Rattle.tw_core.specs.Parts.{AddUp, IsOwn, Part, PreservesPart, Shared, assembled};
 ghost use Rattle.tw_core.specs.Run.{IsAtEnd, IsSeq, IsSettled};
 ghost use Rattle.tw_core.specs.Steps.{after_arrival, after_undoing, deliver, first_pending, handle, next, run, undo, with_release, with_room};
 ghost use Rattle.tw_sim.specs.declared.machine.Cancel.TheVariants.{Aggressive};
@@ -108,15 +108,15 @@ pub fn stop_may_rise<S, E>()
 /// event undone, as within a delivery.
 pub fn calls_keep_parts<S, E>()
     ensures handle { (m : Simulation S E) → IsLawful m → (t : ℕ) (C D : Core E) (r : ℕ) → IsGoodPart m t C
-        → handle m C r (first_pending m C r) ≡ Ok D → KeepsPart m t C D }
+        → handle m C r (first_pending m C r) ≡ Ok D → PreservesPart m t C D }
     ensures undo { (m : Simulation S E) → IsLawful m → (t : ℕ) (C D : Core E) (r : ℕ) → t ≤ C.bound → IsGoodPart m t C
-        → undo m C r (C.history r) ≡ Ok D → KeepsPart m t C D }
+        → undo m C r (C.history r) ≡ Ok D → PreservesPart m t C D }
     ensures deliver { (m : Simulation S E) → IsLawful m → (t : ℕ) (C D : Core E) (k : ℕ) → IsGoodPart m t C
-        → deliver m C k (slice_get C.flight k) ≡ Ok D → KeepsPart m t C D }
+        → deliver m C k (slice_get C.flight k) ≡ Ok D → PreservesPart m t C D }
     ensures undoing { (m : Simulation S E) → IsLawful m → (t : ℕ) (C : Core E) (r : ℕ) (e : E) (older : List E) → t ≤ m.time e → IsGoodPart m t C
-        → C.history r ≡ e ∷ older → KeepsPart m t C (after_undoing m C r e older) }
-    ensures release { (m : Simulation S E) → IsLawful m → (t : ℕ) (C : Core E) (r : ℕ) → IsGoodPart m t C → KeepsPart m t C (with_release m C r) }
-    ensures widen { (m : Simulation S E) → IsLawful m → (t : ℕ) (C : Core E) (r : ℕ) → IsGoodPart m t C → KeepsPart m t C (with_room m C r) }
+        → C.history r ≡ e ∷ older → PreservesPart m t C (after_undoing m C r e older) }
+    ensures release { (m : Simulation S E) → IsLawful m → (t : ℕ) (C : Core E) (r : ℕ) → IsGoodPart m t C → PreservesPart m t C (with_release m C r) }
+    ensures widen { (m : Simulation S E) → IsLawful m → (t : ℕ) (C : Core E) (r : ℕ) → IsGoodPart m t C → PreservesPart m t C (with_room m C r) }
 {}
 
 /// What a call does at routers that a part owns leaves in it only what is for these, and holds only what

@@ -24,7 +24,7 @@ use Rattle.tw_policy.specs.Standing.{standing}
 use Rattle.tw_policy.proofs.Halts as halts
 use Rattle.tw_policy.proofs.Left.{alone, alone_at, left_solved}
 use Rattle.tw_policy.proofs.Rests as rests
-use Rattle.tw_policy.proofs.Rests.{IsListed, lists, some_kept, some_path}
+use Rattle.tw_policy.proofs.Rests.{IsLeftAfterRounds, lists, some_kept, some_path}
 use Rattle.tw_policy.proofs.Safe.{solved_safe}
 use Rattle.tw_policy.proofs.Scripts.{scripted_before, soon_ready}
 use Rattle.tw_policy.proofs.Stuck.{stuck_wheel}
@@ -108,7 +108,7 @@ module _ (case : Case) (n : ℕ) where
         let start = last_time (opening_events case.scenes) + 1 in
         let most = longest_delay case.net.links in
         rests.rests case is start (scripted_before case start (scripted case)) t (soon_ready start most t (suc n) over) most (at_most case.net)
-        (IsListed case.net (standing case)) (lists case.net (standing case)) n (alone case.net (standing case) n (one_each solved)) over
+        (IsLeftAfterRounds case.net (standing case)) (lists case.net (standing case)) n (alone case.net (standing case) n (one_each solved)) over
 
     pub there : (v : ℕ) (q : PathNo) → left_in case n v ≡ q ∷ [] → (t : ℕ) → rests_before case n ≤ t → (at (simulation case) t v).rib ≡ q
     there v q one t over =
@@ -117,7 +117,7 @@ module _ (case : Case) (n : ℕ) where
         let soon : after_rounds start most n ≤ t = omega arith in
         alone_at case.net (standing case) n v q one ((at (simulation case) t v).rib)
         (rests.may_now case is start (scripted_before case start (scripted case)) t (soon_ready start most t n soon) most (at_most case.net)
-        (IsListed case.net (standing case)) (lists case.net (standing case)) n v soon)
+        (IsLeftAfterRounds case.net (standing case)) (lists case.net (standing case)) n v soon)
 
 -- ---- a choice
 
@@ -153,7 +153,7 @@ some_choice case other =
     let v = found.0 in
     let within = in_range v 0 case.net.nodes found.2 in
     let same = ap length (last_left case v (omega arith)) in
-    let some = not_empty (at_halt case v) (some_path case.net (standing case) (suc n) v) (some_kept case.net (standing case) (IsListed case.net (standing case)) (lists case.net (standing case)) (suc n) v) in
+    let some = not_empty (at_halt case v) (some_path case.net (standing case) (suc n) v) (some_kept case.net (standing case) (IsLeftAfterRounds case.net (standing case)) (lists case.net (standing case)) (suc n) v) in
     let two : 1 < length (at_halt case v) = elim (cases_eq (length (left_in case n v)) 1) [
       | inl e ↦ absurd (both_ways (length (left_in case n v) == 1) found.1 (eq-eqb (length (left_in case n v)) 1 e))
       | inr apart ↦ omega arith

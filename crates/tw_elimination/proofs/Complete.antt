@@ -16,7 +16,7 @@ use Rattle.tw_policy.proofs.Lists.{all_from}
 use Rattle.tw_elimination.specs.Placing.{are_placed, counts_after, has_one_list, may_follow, next_count}
 use Rattle.tw_elimination.specs.Wheel.{first_node, number_of}
 use Rattle.tw_elimination.proofs.Listing.{at_place, count, count_few, grows, halts_with, own_below}
-use Rattle.tw_elimination.proofs.Ring.{is_number, numbers}
+use Rattle.tw_elimination.proofs.PathNumbers.{is_number, numbers}
 
 -- ---- no more paths begin at routers than there are
 

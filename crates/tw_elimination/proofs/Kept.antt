@@ -14,7 +14,7 @@ use Rattle.tw_policy.specs.Left.{remaining}
 use Rattle.tw_policy.specs.Search.{is_one_of, total}
 use Rattle.tw_policy.specs.Standing.{standing}
 use Rattle.tw_policy.proofs.Ends.{filter_short, total_no_more}
-use Rattle.tw_elimination.specs.Narrowing.{AreLists, halt_within, keeps_all, kept_after, kept_at, list_at, one_round, total_in}
+use Rattle.tw_elimination.specs.Narrowing.{AreLists, halt_within, left_at, list_at, lists_after, loses_none, one_round, total_in}
 
 -- the rows of a table, one more
 pub items_more : (f : ℕ → List PathNo) (k : ℕ) (old new : List (Vec PathNo Global)) (x : Vec PathNo Global) → new ≡ old ++ x ∷ [] → x.items ≡ f k → items old ≡ map f (range_with_len 0 k)
@@ -79,11 +79,11 @@ module _ (case : Case) where
   abbrev pub may_be : List (List PathNo) → ℕ → List PathNo
   may_be lists v = if v == 0 then origin_path ∷ [] else remaining case.net (standing case) (list_at lists) v [] (standing case v).order
 
-  pub at_round : (lists : List (List PathNo)) (v : ℕ) → v < case.net.nodes → list_at (one_round case lists) v ≡ kept_at case lists v
-  at_round lists v here = get_or-map-range_with_len (kept_at case lists) 0 case.net.nodes v v [] here (omega arith)
+  pub at_round : (lists : List (List PathNo)) (v : ℕ) → v < case.net.nodes → list_at (one_round case lists) v ≡ left_at case lists v
+  at_round lists v here = get_or-map-range_with_len (left_at case lists) 0 case.net.nodes v v [] here (omega arith)
 
   pub round_long : (lists : List (List PathNo)) → length (one_round case lists) ≡ case.net.nodes
-  round_long lists = length-map-range_with_len (kept_at case lists) 0 case.net.nodes
+  round_long lists = length-map-range_with_len (left_at case lists) 0 case.net.nodes
 
   -- a round keeps paths that were there
   pub round_in : (lists : List (List PathNo)) (v : ℕ) (q : PathNo) → In q (list_at (one_round case lists) v) → In q (list_at lists v)
@@ -103,62 +103,62 @@ module _ (case : Case) where
         (λ q i. in_from_all (IsPath case.net) (list_at lists v) (are.paths v) q (round_in lists v q i));
   }
 
-  kept_short : (lists : List (List PathNo)) (v : ℕ) → length (kept_at case lists v) ≤ length (list_at lists v)
+  kept_short : (lists : List (List PathNo)) (v : ℕ) → length (left_at case lists v) ≤ length (list_at lists v)
   kept_short lists v = filter_short (is_one_of (may_be lists v)) (list_at lists v)
 
-  pub takes_one : (lists : List (List PathNo)) → keeps_all case lists ≡ false → total_in case (one_round case lists) < total_in case lists
+  pub takes_one : (lists : List (List PathNo)) → loses_none case lists ≡ false → total_in case (one_round case lists) < total_in case lists
   takes_one lists other =
-      let same = total_same (list_at (one_round case lists)) (kept_at case lists) routers (λ v i. let r = in_range v 0 case.net.nodes i in at_round lists v (omega arith)) in
-      let fewer = total_fewer (kept_at case lists) (list_at lists) (kept_short lists) routers other in
+      let same = total_same (list_at (one_round case lists)) (left_at case lists) routers (λ v i. let r = in_range v 0 case.net.nodes i in at_round lists v (omega arith)) in
+      let fewer = total_fewer (left_at case lists) (list_at lists) (kept_short lists) routers other in
       omega arith
 
   pub takes_none_more : (lists : List (List PathNo)) → total_in case (one_round case lists) ≤ total_in case lists
   takes_none_more lists =
-      let same = total_same (list_at (one_round case lists)) (kept_at case lists) routers (λ v i. let r = in_range v 0 case.net.nodes i in at_round lists v (omega arith)) in
-      let most = total_no_more (kept_at case lists) (list_at lists) (kept_short lists) routers in
+      let same = total_same (list_at (one_round case lists)) (left_at case lists) routers (λ v i. let r = in_range v 0 case.net.nodes i in at_round lists v (omega arith)) in
+      let most = total_no_more (left_at case lists) (list_at lists) (kept_short lists) routers in
       omega arith
 
   -- where a round takes nothing, each path is one that its router may use
-  pub all_kept_in : (lists : List (List PathNo)) → keeps_all case lists ≡ true → (v : ℕ) → v < case.net.nodes → (q : PathNo) → In q (list_at lists v) → is_one_of (may_be lists v) q ≡ true
+  pub all_kept_in : (lists : List (List PathNo)) → loses_none case lists ≡ true → (v : ℕ) → v < case.net.nodes → (q : PathNo) → In q (list_at lists v) → is_one_of (may_be lists v) q ≡ true
   all_kept_in lists all v here q i =
       filter_whole (is_one_of (may_be lists v)) (list_at lists v)
-      (long_at (kept_at case lists) (list_at lists) routers all v (range_has v 0 case.net.nodes (omega arith) (omega arith))) q i
+      (long_at (left_at case lists) (list_at lists) routers all v (range_has v 0 case.net.nodes (omega arith) (omega arith))) q i
 
   -- ---- to the halt
 
-  pub halt_is : (n : ℕ) (lists : List (List PathNo)) → keeps_all case lists ≡ true → kept_after case n lists ≡ lists
+  pub halt_is : (n : ℕ) (lists : List (List PathNo)) → loses_none case lists ≡ true → lists_after case n lists ≡ lists
   halt_is zero lists all = refl
   halt_is (suc n) lists all = rw all refl
 
-  pub halt_more : (n : ℕ) (lists halt : List (List PathNo)) → total_in case lists ≤ n → kept_after case n lists ≡ halt → keeps_all case lists ≡ false
-      → (k : ℕ) × (total_in case (one_round case lists) ≤ k) × (kept_after case k (one_round case lists) ≡ halt)
+  pub halt_more : (n : ℕ) (lists halt : List (List PathNo)) → total_in case lists ≤ n → lists_after case n lists ≡ halt → loses_none case lists ≡ false
+      → (k : ℕ) × (total_in case (one_round case lists) ≤ k) × (lists_after case k (one_round case lists) ≡ halt)
   halt_more zero lists halt few is other = let fewer = takes_one lists other in absurd (omega arith)
   halt_more (suc n) lists halt few is other =
       let fewer = takes_one lists other in
       (n, omega arith, rw other at is)
 
   -- so many rounds lead to a halt
-  halts : (n : ℕ) (lists : List (List PathNo)) → total_in case lists ≤ n → keeps_all case (kept_after case n lists) ≡ true
+  halts : (n : ℕ) (lists : List (List PathNo)) → total_in case lists ≤ n → loses_none case (lists_after case n lists) ≡ true
   halts zero lists few =
-      elim (cases_Bool (keeps_all case lists)) [
+      elim (cases_Bool (loses_none case lists)) [
         | inl b ↦ b
         | inr b ↦ (let fewer = takes_one lists b in absurd (omega arith))
       ]
   halts (suc n) lists few =
-      elim (cases_Bool (keeps_all case lists)) [
+      elim (cases_Bool (loses_none case lists)) [
         | inl b ↦ rw b b
         | inr b ↦ rw b (let fewer = takes_one lists b in halts n (one_round case lists) (omega arith))
       ]
 
-  pub halt_keeps : (lists : List (List PathNo)) → keeps_all case (halt_within case lists) ≡ true
+  pub halt_keeps : (lists : List (List PathNo)) → loses_none case (halt_within case lists) ≡ true
   halt_keeps lists = halts (total_in case lists) lists (omega arith)
 
   -- what every round keeps, the halt has
   pub halt_has : (P : List (List PathNo) → Type 0) → ((lists : List (List PathNo)) → P lists → P (one_round case lists)) → (n : ℕ) (lists : List (List PathNo)) → P lists
-      → P (kept_after case n lists)
+      → P (lists_after case n lists)
   halt_has P more zero lists p = p
   halt_has P more (suc n) lists p =
-      elim (cases_Bool (keeps_all case lists)) [
+      elim (cases_Bool (loses_none case lists)) [
         | inl b ↦ rw b p
         | inr b ↦ rw b (halt_has P more n (one_round case lists) (more lists p))
       ]
@@ -169,27 +169,27 @@ module _ (case : Case) where
     next_long : length next ≡ case.net.nodes
     next_long = sym (length-map next (λ (v : Vec PathNo Global). v.items)) ∙ (ap length is ∙ round_long (items lists))
 
-    row_kept : (v : ℕ) → v < case.net.nodes → length (row next v) ≡ length (kept_at case (items lists) v)
+    row_kept : (v : ℕ) → v < case.net.nodes → length (row next v) ≡ length (left_at case (items lists) v)
     row_kept v here = ap length (ap (λ ls. get_or ls v []) is ∙ at_round (items lists) v here)
 
-    pub goes_on : (v : ℕ) → v < length next → (length (row next v) ≡ length (row lists v) → ⊥) → keeps_all case (items lists) ≡ false
+    pub goes_on : (v : ℕ) → v < length next → (length (row next v) ≡ length (row lists v) → ⊥) → loses_none case (items lists) ≡ false
     goes_on v within apart =
         let long = next_long in
-        elim (cases_Bool (keeps_all case (items lists))) [
+        elim (cases_Bool (loses_none case (items lists))) [
           | inr b ↦ b
           | inl b ↦ absurd (apart (row_kept v (omega arith)
-              ∙ long_at (kept_at case (items lists)) (list_at (items lists)) routers b v (range_has v 0 case.net.nodes (omega arith) (omega arith))))
+              ∙ long_at (left_at case (items lists)) (list_at (items lists)) routers b v (range_has v 0 case.net.nodes (omega arith) (omega arith))))
         ]
 
-    pub is_over : ((v : ℕ) → v < length next → length (row next v) ≡ length (row lists v)) → keeps_all case (items lists) ≡ true
+    pub is_over : ((v : ℕ) → v < length next → length (row next v) ≡ length (row lists v)) → loses_none case (items lists) ≡ true
     is_over same =
         let long = next_long in
-        all_long (kept_at case (items lists)) (list_at (items lists)) routers
+        all_long (left_at case (items lists)) (list_at (items lists)) routers
         (λ v i. let r = in_range v 0 case.net.nodes i in sym (row_kept v (omega arith)) ∙ same v (omega arith))
 
     -- as slices of the code
     pub not_last : (one two : List (Vec PathNo Global)) → one ≡ lists → two ≡ next → (v : ℕ) × (v < length two) × (length (row two v) ≡ length (row one v) → ⊥)
-        → keeps_all case (items lists) ≡ false
+        → loses_none case (items lists) ≡ false
     not_last one two e f found =
         goes_on found.0 (subst (λ xs. found.0 < length xs) f found.1)
         (λ same. found.2 (ap (λ xs. length (row xs found.0)) f ∙ (same ∙ ap (λ xs. length (row xs found.0)) (sym e))))

@@ -6,6 +6,7 @@ pub mod Rounds
 pub mod Scripts
 pub mod Halting
 pub mod Bounds
+pub mod PathNumbers
 pub mod Ring
 pub mod Wheels
 pub mod Kept

@@ -26,7 +26,8 @@ use Rattle.tw_policy.proofs.Topological.{none_in}
 use Rattle.tw_elimination.specs.Placing.{are_placed, count_of, counts_after, has_one_list, is_placed, may_follow, next_count}
 use Rattle.tw_elimination.specs.Wheel.{first_node, number_of}
 use Rattle.tw_elimination.proofs.Bounds.{all_at}
-use Rattle.tw_elimination.proofs.Ring.{begins, number_is, one_more}
+use Rattle.tw_elimination.proofs.Ring.{begins, one_more}
+use Rattle.tw_elimination.proofs.PathNumbers.{number_is}
 
 -- ---- a path begins at a router
 

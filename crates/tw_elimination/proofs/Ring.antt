@@ -1,8 +1,6 @@
 -- The walk from best path to best path comes round, and what it goes round is a dispute wheel.
-use Rattle.std.proofs.Common.{◌≡◌, ℕ, suc, zero, ◌+◌, ◌-◌, ◌<◌, ◌≤◌, ◌==◌, Bool, true, false, not, ◌&&◌, List, [], ◌∷◌, ◌++◌, drop, filter, get_or, length, length-drop, map, take, append_assoc, append-nil, Option, Some, None, refl, ap, sym, ◌∙◌, subst, ◌⊎◌, inl, inr, arith, nat_lt, if◌then◌else◌}
-use Rattle.std.specs.Prelude.{IfSome}
-use Rattle.std.specs.List.{All, find, list_any, prefix_len, range_with_len, zip}
-use Rattle.std.specs.Option.{unwrap_or}
+use Rattle.std.proofs.Common.{◌≡◌, ℕ, suc, zero, ◌+◌, ◌-◌, ◌<◌, ◌≤◌, ◌==◌, true, false, not, ◌&&◌, List, [], ◌∷◌, ◌++◌, drop, filter, get_or, length, length-drop, map, take, append_assoc, append-nil, Some, refl, ap, sym, ◌∙◌, subst, ◌⊎◌, inl, inr, arith, nat_lt, if◌then◌else◌}
+use Rattle.std.specs.List.{All, list_any, prefix_len, range_with_len, zip}
 use Rattle.std.proofs.lemmas.Bool.{cases_Bool, cases_eq, cases_lt, and_parts, both_ways, eq-eqb, eqb-true, false≢true, lt-ltb, ltb-true, ne_eqb, not-true, not_from_false}
 use Rattle.std.proofs.lemmas.List.{map-append, take_all}
 use Rattle.std.proofs.lemmas.List.FromFn.{length-range_with_len}
@@ -10,8 +8,8 @@ use Rattle.tw_event.specs.declared.event.PathNo.{PathNo}
 use Rattle.tw_model.specs.Net.{IsPath, Net, begins_at, empty_path, hops_of, is_own, origin_path, path, paths, same_path}
 use Rattle.tw_model.specs.Rules.{IsNet}
 use Rattle.tw_model.specs.State.{State, bars}
-use Rattle.tw_model.proofs.Paths.{own_is_path, path_empty, path_exact, path_origin, same_path_is, same_path_self}
-use Rattle.tw_sim.proofs.Members.{In, all_from_in, any_from_in, find_some, in_append, in_filtered, in_find, in_from_all, in_from_any, in_get_or, in_map, in_mapped, in_or_default, in_range, range_has}
+use Rattle.tw_model.proofs.Paths.{own_is_path, path_empty, path_origin, same_path_is}
+use Rattle.tw_sim.proofs.Members.{In, all_from_in, any_from_in, in_append, in_filtered, in_from_all, in_from_any, in_get_or, in_or_default, range_has}
 use Rattle.tw_policy.specs.DisputeWheel.{AreDisputed, IsDisputed, LeadsTo, Pivot, hop, hops, is_among, is_no_worse}
 use Rattle.tw_policy.specs.Left.{IsHalted, allows, follows, is_covered, is_given, remaining}
 use Rattle.tw_policy.specs.Search.{first_of, has_choice}
@@ -20,45 +18,7 @@ use Rattle.tw_policy.proofs.Stuck as stuck
 use Rattle.tw_policy.proofs.Stuck.{IsSpoke}
 use Rattle.tw_elimination.specs.declared.wheel.Pivot.{Pivot as Told}
 use Rattle.tw_elimination.specs.Wheel.{AreWheel, after_pivots, first_node, next_pivot, number_of, pivot_of, pivots_to, ring_of, spoke_nodes}
-
--- ---- numbers of paths
-
-abbrev pub numbers : Net → List PathNo
-numbers net = map (λ k. let q : PathNo = record { 0 = k } in q) (range_with_len 0 (length (paths net)))
-
-pub is_number : (net : Net) (q : PathNo) → In q (numbers net) → IsPath net q
-is_number net q i =
-    let from = in_map (λ k. let p : PathNo = record { 0 = k } in p) q (range_with_len 0 (length (paths net))) i in
-    let within = in_range from.0 0 (length (paths net)) from.2 in
-    let same = ap (λ (p : PathNo). p.0) from.1 in
-    omega arith
-
--- the number of a path's nodes is its own
-pub number_is : (net : Net) → IsNet net → (q : PathNo) → IsPath net q → number_of net (path net q) ≡ q
-unfolding number_of
-number_is net is q within =
-    let test : PathNo → Bool = λ p. same_path (path net p) (path net q) in
-    let here : In q (numbers net) = in_mapped (λ k. let p : PathNo = record { 0 = k } in p) q.0 (range_with_len 0 (length (paths net))) (range_has q.0 0 (length (paths net)) (omega arith) (omega arith)) in
-    let found = find_some test (numbers net) (any_from_in test q (numbers net) (same_path_self (path net q)) here) in
-    let met = in_find test found.0 (numbers net) found.1 in
-    ap (λ o. unwrap_or o empty_path) found.1
-    ∙ path_exact net is found.0 q (is_number net found.0 met.1) within (same_path_is (path net found.0) (path net q) met.0)
-
--- what a look-up tells is the number of the nodes
-pub number_told : (net : Net) → IsNet net → (nodes : List ℕ) (o : Option PathNo) → IfSome o (λ q. IsPath net q × (path net q ≡ nodes))
-    → ((q : PathNo) → IsPath net q → path net q ≡ nodes → o ≡ Some q) → unwrap_or o empty_path ≡ number_of net nodes
-unfolding number_of
-number_told net is nodes (Some q) some only = sym (number_is net is q some.0) ∙ ap (number_of net) some.1
-number_told net is nodes None some only = at (find test (numbers net)) refl where
-  test : PathNo → Bool
-  test p = same_path (path net p) nodes
-
-  at : (o : Option PathNo) → find test (numbers net) ≡ o → empty_path ≡ number_of net nodes
-  at None e = sym (ap (λ o. unwrap_or o empty_path) e)
-  at (Some q) e =
-      let met = in_find test q (numbers net) e in
-      let none : None ≡ Some q = only q (is_number net q met.1) (same_path_is (path net q) nodes met.0) in
-      absurd (cc)
+use Rattle.tw_elimination.proofs.PathNumbers.{number_is}
 
 -- ---- a walk among so many comes to one of them a second time
 

@@ -17,7 +17,7 @@ use Rattle.tw_model.proofs.Nets.{has_peer_linked, hop_in_hops, hop_slot, linked_
 use Rattle.tw_model.proofs.Paths.{in_paths_of, path_some}
 use Rattle.tw_model.proofs.Unbroken.{none_broken}
 use Rattle.tw_sim.proofs.Members.{In, all_from_in, any_from_in, in_append, in_from_all, in_from_any, in_get_or, in_left, in_right, range_has}
-use Rattle.tw_elimination.specs.Placing.{GoesOnNext, IsNext, IsStuck, are_placed, count_of, counts_after, has_one_list, has_router, may_follow, next_count}
+use Rattle.tw_elimination.specs.Placing.{GoesOnNext, IsNextToPlace, PlacesNothing, are_placed, count_of, counts_after, has_one_list, has_router, may_follow, next_count}
 use Rattle.tw_elimination.specs.Wheel.{first_node, number_of}
 use Rattle.tw_elimination.proofs.Complete.{halt_from, more_or_same, number_found, paths_few, sum_of}
 use Rattle.tw_elimination.proofs.Listing.{at_place, count_first, count_past, grows, halts_with, step}
@@ -104,14 +104,14 @@ all_popped P old new x popped all =
     )
 
 -- what waited still does where a router that can put no path there is let go
-pub waits_less : (net : Net) (placed old new : List ℕ) (x : ℕ) → old ≡ new ++ x ∷ [] → IsStuck net placed x
-    → ((v : ℕ) → v < net.nodes → (has_router old v ≡ true) ⊎ IsStuck net placed v) → (v : ℕ) → v < net.nodes → (has_router new v ≡ true) ⊎ IsStuck net placed v
+pub waits_less : (net : Net) (placed old new : List ℕ) (x : ℕ) → old ≡ new ++ x ∷ [] → PlacesNothing net placed x
+    → ((v : ℕ) → v < net.nodes → (has_router old v ≡ true) ⊎ PlacesNothing net placed v) → (v : ℕ) → v < net.nodes → (has_router new v ≡ true) ⊎ PlacesNothing net placed v
 waits_less net placed old new x popped stuck waits v low =
     elim (waits v low) [
       | inr s ↦ inr s
       | inl h ↦ elim (work_popped old new x popped v h) [
         | inl i ↦ inl i
-        | inr e ↦ inr (subst (IsStuck net placed) (sym e) stuck)
+        | inr e ↦ inr (subst (PlacesNothing net placed) (sym e) stuck)
       ]
     ]
 
@@ -119,8 +119,8 @@ waits_less net placed old new x popped stuck waits v low =
 pub nothing_left : (old new : List ℕ) (n : ℕ) → old ≡ new ++ [] → new ≡ take (n - 1) old → n ≡ 0 → old ≡ []
 nothing_left old new n whole rest none = whole ∙ ap (λ xs. xs ++ []) (rest ∙ ap (λ k. take (k - 1) old) none)
 
-pub none_waits : (net : Net) (placed work : List ℕ) → work ≡ [] → ((v : ℕ) → v < net.nodes → (has_router work v ≡ true) ⊎ IsStuck net placed v)
-    → (v : ℕ) → v < net.nodes → IsStuck net placed v
+pub none_waits : (net : Net) (placed work : List ℕ) → work ≡ [] → ((v : ℕ) → v < net.nodes → (has_router work v ≡ true) ⊎ PlacesNothing net placed v)
+    → (v : ℕ) → v < net.nodes → PlacesNothing net placed v
 none_waits net placed work none waits v low =
     elim (waits v low) [
       | inr s ↦ s
@@ -161,7 +161,7 @@ module _ (net : Net) (net_is : IsNet net) where
   next_is n v low = get_or-map-range_with_len (next_count net (counts_after net n)) 0 net.nodes v v 0 low (omega arith)
 
   -- where no router can put a path there, no round has put more there
-  all_stuck : (placed : List ℕ) → ((v : ℕ) → v < net.nodes → IsStuck net placed v) → (n v : ℕ) → counted n v ≤ count_of net placed v
+  all_stuck : (placed : List ℕ) → ((v : ℕ) → v < net.nodes → PlacesNothing net placed v) → (n v : ℕ) → counted n v ≤ count_of net placed v
   all_stuck placed stuck zero v = let none = count_first net net_is v in omega arith
   all_stuck placed stuck (suc n) v =
       let before = all_stuck placed stuck n in
@@ -186,14 +186,14 @@ module _ (net : Net) (net_is : IsNet net) where
       ]
 
   -- so all that can stand there does
-  pub all_placed : (placed : List ℕ) → ((v : ℕ) → v < net.nodes → IsStuck net placed v) → (n : ℕ) → ((v : ℕ) → count_of net placed v ≤ counted n v)
+  pub all_placed : (placed : List ℕ) → ((v : ℕ) → v < net.nodes → PlacesNothing net placed v) → (n : ℕ) → ((v : ℕ) → count_of net placed v ≤ counted n v)
       → are_placed net placed ≡ has_one_list net
   all_placed placed stuck n reached =
       let few = paths_few net in
       let halt = halt_from net net_is (length (paths net)) 0 (omega arith) in
       let k = halt.0 in
       let soon = halt.1 in
-      let halted : (v : ℕ) → v < net.nodes → IsStuck net (counts_after net k) v = λ v low. sym (next_is k v low) ∙ ap (λ xs. get_or xs v 0) halt.2 in
+      let halted : (v : ℕ) → v < net.nodes → PlacesNothing net (counts_after net k) v = λ v low. sym (next_is k v low) ∙ ap (λ xs. get_or xs v 0) halt.2 in
       let same : (v : ℕ) → count_of net placed v ≡ counted k v = λ v.
       (let high = reached v in let most = all_stuck (counts_after net k) halted n v in let least = all_stuck placed stuck k v in omega arith) in
       all_same (λ v. count_of net placed v == length (paths_of net v)) (λ v. counted k v == length (paths_of net v)) (λ v. ap (λ m. m == length (paths_of net v)) (same v)) (range_with_len 0 net.nodes)
@@ -201,7 +201,7 @@ module _ (net : Net) (net_is : IsNet net) where
 
   -- ---- one path more
 
-  module _ (placed : List ℕ) (v : ℕ) (q : PathNo) (within : v < length placed) (low : v < net.nodes) (next : IsNext net placed v q) where
+  module _ (placed : List ℕ) (v : ℕ) (q : PathNo) (within : v < length placed) (low : v < net.nodes) (next : IsNextToPlace net placed v q) where
     abbrev more : List ℕ
     more = set placed v (count_of net placed v + 1)
 
@@ -277,7 +277,7 @@ module _ (net : Net) (net_is : IsNet net) where
         ]
 
     -- a router that could put no path there still can't, or waits for this one
-    pub stuck_or_waits : (u : ℕ) → u < net.nodes → (u ≡ v → ⊥) → IsStuck net placed u → IsStuck net more u ⊎ (GoesOnNext net more q u × (has_peer net v u ≡ true))
+    pub stuck_or_waits : (u : ℕ) → u < net.nodes → (u ≡ v → ⊥) → PlacesNothing net placed u → PlacesNothing net more u ⊎ (GoesOnNext net more q u × (has_peer net v u ≡ true))
     stuck_or_waits u below apart stuck =
         let k = count_of net placed u in
         let k_is : count_of net more u ≡ k = others u apart in
@@ -308,8 +308,8 @@ module _ (net : Net) (net_is : IsNet net) where
 
     -- who is at work once those are put back that wait for the path
     pub waits_more : (old rest mid new : List ℕ) → old ≡ rest ++ v ∷ [] → mid ≡ rest ++ v ∷ [] → ((u : ℕ) → has_router mid u ≡ true → has_router new u ≡ true)
-        → All (λ h. GoesOnNext net more q h.peer → has_router new h.peer ≡ true) (hops_of net v) → ((u : ℕ) → u < net.nodes → (has_router old u ≡ true) ⊎ IsStuck net placed u)
-        → (u : ℕ) → u < net.nodes → (has_router new u ≡ true) ⊎ IsStuck net more u
+        → All (λ h. GoesOnNext net more q h.peer → has_router new h.peer ≡ true) (hops_of net v) → ((u : ℕ) → u < net.nodes → (has_router old u ≡ true) ⊎ PlacesNothing net placed u)
+        → (u : ℕ) → u < net.nodes → (has_router new u ≡ true) ⊎ PlacesNothing net more u
     waits_more old rest mid new popped pushed kept waiting waits u below =
         elim (cases_eq u v) [
           | inl e ↦ inl (subst (λ z. has_router new z ≡ true) (sym e) (kept v (work_has rest mid v pushed)))

@@ -17,21 +17,21 @@ pub record AreLists (case : Case) (lists : List (List PathNo)) : Type 0 where
   pub paths : (v : ℕ) → All (IsPath case.net) (list_at lists v)
 
 -- those of the paths of its list that router v may use where every neighbour uses one of its list
-abbrev pub kept_at : Case → List (List PathNo) → ℕ → List PathNo
-kept_at case lists v = narrowed case.net (standing case) (list_at lists) v
+abbrev pub left_at : Case → List (List PathNo) → ℕ → List PathNo
+left_at case lists v = narrowed case.net (standing case) (list_at lists) v
 
--- what all routers keep in one round
+-- what is left to all routers in one round
 abbrev pub one_round : Case → List (List PathNo) → List (List PathNo)
-one_round case lists = map (kept_at case lists) (range_with_len 0 case.net.nodes)
+one_round case lists = map (left_at case lists) (range_with_len 0 case.net.nodes)
 
--- whether each router keeps as many paths
-abbrev pub keeps_all : Case → List (List PathNo) → Bool
-keeps_all case lists = list_all (λ v. length (kept_at case lists v) == length (list_at lists v)) (range_with_len 0 case.net.nodes)
+-- whether each router has as many paths left
+abbrev pub loses_none : Case → List (List PathNo) → Bool
+loses_none case lists = list_all (λ v. length (left_at case lists v) == length (list_at lists v)) (range_with_len 0 case.net.nodes)
 
--- what they keep in so many rounds, or in as many as take a path
-abbrev pub kept_after : Case → ℕ → List (List PathNo) → List (List PathNo)
-kept_after case zero lists = lists
-kept_after case (suc n) lists = if keeps_all case lists then lists else kept_after case n (one_round case lists)
+-- what is left to them in so many rounds, or in as many as take a path
+abbrev pub lists_after : Case → ℕ → List (List PathNo) → List (List PathNo)
+lists_after case zero lists = lists
+lists_after case (suc n) lists = if loses_none case lists then lists else lists_after case n (one_round case lists)
 
 -- how many paths the lists have in all
 abbrev pub total_in : Case → List (List PathNo) → ℕ
@@ -39,4 +39,4 @@ total_in case lists = total (list_at lists) (range_with_len 0 case.net.nodes)
 
 -- what they keep at the halt, to which no more rounds lead than there are paths
 abbrev pub halt_within : Case → List (List PathNo) → List (List PathNo)
-halt_within case lists = kept_after case (total_in case lists) lists
+halt_within case lists = lists_after case (total_in case lists) lists

@@ -27,12 +27,12 @@ module _ (net : Net) (placed : List ℕ) where
       if nat_lt k (length (paths_of net v)) && may_follow (slice_index_or (paths_of net v) k empty_path) then k + 1 else k
 
   -- the next path of v is q, and the path that q goes on with stands there
-  abbrev pub IsNext : ℕ → PathNo → Type 0
-  IsNext v q = (count_of v < length (paths_of net v)) × (slice_index_or (paths_of net v) (count_of v) empty_path ≡ q) × (may_follow q ≡ true)
+  abbrev pub IsNextToPlace : ℕ → PathNo → Type 0
+  IsNextToPlace v q = (count_of v < length (paths_of net v)) × (slice_index_or (paths_of net v) (count_of v) empty_path ≡ q) × (may_follow q ≡ true)
 
   -- v puts no path there in one round more
-  abbrev pub IsStuck : ℕ → Type 0
-  IsStuck v = next_count v ≡ count_of v
+  abbrev pub PlacesNothing : ℕ → Type 0
+  PlacesNothing v = next_count v ≡ count_of v
 
   -- the next path of v is v followed by the path p
   abbrev pub GoesOnNext : PathNo → ℕ → Type 0

@@ -2,7 +2,7 @@
 
 ghost use Rattle.std.specs.Prelude.{ℕ, ◌≡◌, ◌+◌, ◌<◌, ◌≤◌, true, length, slice_index_or, None, IfOk, IfSome, OnOk};
 ghost use Rattle.std.specs.List.{All, range_with_len};
-ghost use Rattle.tw_elimination.specs.Placing.{GoesOnNext, IsNext, IsStuck, are_placed, count_of as count_of_router, counts_after, has_one_list as has_one_list_of, has_router, is_placed as is_placed_in, may_follow as may_follow_in};
+ghost use Rattle.tw_elimination.specs.Placing.{GoesOnNext, IsNextToPlace, PlacesNothing, are_placed, count_of as count_of_router, counts_after, has_one_list as has_one_list_of, has_router, is_placed as is_placed_in, may_follow as may_follow_in};
 ghost use Rattle.tw_model.specs.Net.{IsPath, hops_of};
 ghost use Rattle.tw_model.specs.Rules.{IsNet};
 ghost use Rattle.tw_model.specs.declared.limits.TheConstants.{MOST_LINKS, MOST_PATHS};
@@ -55,10 +55,10 @@ fn all_routers(alloc: Global, instance: &Instance) -> Result<Vec<u32>, AllocErro
 
 /// The next path of a router, where the path that it goes on with stands in the list.
 fn next_path(instance: &Instance, placed: &[usize], router: u32) -> Option<PathNo>
-    ensures some { IfSome result (IsNext instance.now placed.now router) }
+    ensures some { IfSome result (IsNextToPlace instance.now placed.now router) }
     ensures few { IfSome result (λ q. count_of_router instance.now placed.now router < MOST_PATHS) }
     ensures path { IfSome result (IsPath instance.now) }
-    ensures none { result ≡ None → IsStuck instance.now placed.now router }
+    ensures none { result ≡ None → PlacesNothing instance.now placed.now router }
 {
     let path = *instance.permitted(router).get(count_of(placed, router))?;
     if may_follow(instance, placed, path) {

@@ -7,7 +7,7 @@ use Rattle.tw_core.specs.Machine.{Core, count_ahead}
 use Rattle.tw_core.specs.Steps.{after_handling, first_pending, handle, is_newest, message, put, take_out}
 use Rattle.tw_core.specs.declared.refusal.Refusal.{Refusal}
 use Rattle.tw_core.specs.declared.refusal.Refusal.TheVariants.{CounterFull, Double, Nothing}
-use Rattle.tw_engine.specs.Process.{AreOwn, Logical, core_of, joined}
+use Rattle.tw_engine.specs.Process.{AreOwn, Logical, joined, process_core}
 use Rattle.tw_engine.specs.Past.{Handled}
 use Rattle.tw_engine.specs.declared.stopped.Stopped.{Stopped}
 use Rattle.tw_engine.specs.declared.stopped.Stopped.TheVariants as stopped
@@ -90,14 +90,14 @@ module _ {S E : Type 0} (m : Simulation S E) where
   module _ (law : IsLawful m) {M : Type 0} (stop : ℕ) (p : Logical M E) (own : AreOwn m p.number p.pending) (rising : IsRising m p.pending) where
     -- the machine's answer
     abbrev answer : Result (Core E) Refusal
-    answer = handle m (core_of stop p) p.number (first_pending m (core_of stop p) p.number)
+    answer = handle m (process_core stop p) p.number (first_pending m (process_core stop p) p.number)
 
     here : (p.number == p.number) ≡ true
     here = eq-eqb p.number p.number refl
 
     -- what waits first is what the machine handles
-    first : (o : Option E) → slice_get p.pending 0 ≡ o → answer ≡ handle m (core_of stop p) p.number o
-    first o h = ap (handle m (core_of stop p) p.number) (ap (least m.before) (own_only p.number p.pending own) ∙ least_rising m law p.pending rising ∙ h)
+    first : (o : Option E) → slice_get p.pending 0 ≡ o → answer ≡ handle m (process_core stop p) p.number o
+    first o h = ap (handle m (process_core stop p) p.number) (ap (least m.before) (own_only p.number p.pending own) ∙ least_rising m law p.pending rising ∙ h)
 
     pub none : slice_get p.pending 0 ≡ None → answer ≡ Err Nothing
     none h = first None h
@@ -110,28 +110,28 @@ module _ {S E : Type 0} (m : Simulation S E) where
 
     module _ (e : E) (h : slice_get p.pending 0 ≡ Some e) (l : m.time e < stop) (n : is_newest m e p.history ≡ false) (few : length p.history < 2 ^ 64) where
       -- the machine sees the process's own history
-      there : (core_of stop p).history p.number ≡ p.history
+      there : (process_core stop p).history p.number ≡ p.history
       there = cond-true (p.number == p.number) p.history [] here
 
-      n_there : is_newest m e ((core_of stop p).history p.number) ≡ false
+      n_there : is_newest m e ((process_core stop p).history p.number) ≡ false
       n_there = subst (λ older. is_newest m e older ≡ false) (sym there) n
 
-      fits : count_ahead (core_of stop p) p.number < (core_of stop p).room p.number
+      fits : count_ahead (process_core stop p) p.number < (process_core stop p).room p.number
       fits = subst (λ older. length older - 0 < 2 ^ 64) (sym there) (omega arith)
 
       pub counter_full : m.full (state m p.number p.history) e ≡ true → answer ≡ Err CounterFull
-      counter_full f = first (Some e) h ∙ handle_full (core_of stop p) p.number e l n_there fits (subst (λ older. m.full (state m p.number older) e ≡ true) (sym there) f)
+      counter_full f = first (Some e) h ∙ handle_full (process_core stop p) p.number e l n_there fits (subst (λ older. m.full (state m p.number older) e ≡ true) (sym there) f)
 
-      pub done : m.full (state m p.number p.history) e ≡ false → answer ≡ Ok (after_handling m (core_of stop p) p.number e)
-      done f = first (Some e) h ∙ handle_done (core_of stop p) p.number e l n_there fits (subst (λ older. m.full (state m p.number older) e ≡ false) (sym there) f)
+      pub done : m.full (state m p.number p.history) e ≡ false → answer ≡ Ok (after_handling m (process_core stop p) p.number e)
+      done f = first (Some e) h ∙ handle_done (process_core stop p) p.number e l n_there fits (subst (λ older. m.full (state m p.number older) e ≡ false) (sym there) f)
 
       taken : (xs : List E) → slice_get xs 0 ≡ Some e → take_out m e xs ≡ drop 1 xs
       taken [] g = cc
       taken (x ∷ xs) g = let is : x ≡ e = cc in rw is (rw (law.same_self e) refl)
 
       -- what the process is then
-      pub handled : after_handling m (core_of stop p) p.number e
-          ≡ core_of stop (record p { history = e ∷ p.history; pending = drop 1 p.pending; flight = p.flight ++ map message (m.sends (state m p.number p.history) e) })
+      pub handled : after_handling m (process_core stop p) p.number e
+          ≡ process_core stop (record p { history = e ∷ p.history; pending = drop 1 p.pending; flight = p.flight ++ map message (m.sends (state m p.number p.history) e) })
       handled =
           same_core stop _ _ _ _ _ _
           (ap (λ older. put (put (λ q. []) p.number p.history) p.number (e ∷ older)) there ∙ same_put p.number p.history (e ∷ p.history))
@@ -141,11 +141,11 @@ module _ {S E : Type 0} (m : Simulation S E) where
       -- and so it is, where its parts are these
       pub as_told : (q : Handled M E) (rest sent before : List E) (flight reserved : List (Signed E)) → q ≡ record { model = p.model; number = p.number; history = e ∷ p.history }
           → rest ≡ drop 1 p.pending → before ≡ [] → sent ≡ before ++ m.sends (state m p.number p.history) e → flight ≡ reserved ++ map message sent → reserved ≡ p.flight
-          → m.full (state m p.number p.history) e ≡ false → answer ≡ Ok (core_of stop (joined q rest flight))
+          → m.full (state m p.number p.history) e ≡ false → answer ≡ Ok (process_core stop (joined q rest flight))
       as_told q rest sent before flight reserved a b nothing of out same f =
           let to : Handled M E = record { model = p.model; number = p.number; history = e ∷ p.history } in
           let all : sent ≡ m.sends (state m p.number p.history) e = of ∙ ap (λ xs. xs ++ m.sends (state m p.number p.history) e) nothing in
           let flies : flight ≡ p.flight ++ map message (m.sends (state m p.number p.history) e) = out ∙ (ap (λ xs. xs ++ map message sent) same ∙ ap (λ xs. p.flight ++ map message xs) all) in
           let joins : joined q rest flight ≡ joined to (drop 1 p.pending) (p.flight ++ map message (m.sends (state m p.number p.history) e)) =
           ap (λ x. joined x rest flight) a ∙ (ap (λ x. joined to x flight) b ∙ ap (λ x. joined to (drop 1 p.pending) x) flies) in
-          done f ∙ ap Ok (handled ∙ sym (ap (core_of stop) joins))
+          done f ∙ ap Ok (handled ∙ sym (ap (process_core stop) joins))

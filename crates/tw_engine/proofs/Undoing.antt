@@ -3,7 +3,7 @@ use Rattle.std.proofs.Common.{◌≡◌, ℕ, ◌<◌, ◌==◌, Bool, true, fal
 use Rattle.std.proofs.lemmas.Bool.{cond-true, eq-eqb, le-ltb}
 use Rattle.tw_core.specs.Machine.{Core}
 use Rattle.tw_core.specs.Steps.{after_undoing, after_undoing_while, undo}
-use Rattle.tw_engine.specs.Process.{IsOneUndone, Logical, core_of, has_newest, is_from}
+use Rattle.tw_engine.specs.Process.{IsOneUndone, Logical, has_newest, is_from, process_core}
 use Rattle.tw_sim.specs.Simulation.{Simulation}
 
 module _ {S E : Type 0} (m : Simulation S E) where
@@ -11,22 +11,22 @@ module _ {S E : Type 0} (m : Simulation S E) where
   undo_step C r e older a b = rw (a, b) refl
 
   module _ {M : Type 0} (stop : ℕ) (p q : Logical M E) (number : q.number ≡ p.number) where
-    one_undone_at : (h : List E) → 0 < length h → undo m (core_of stop p) p.number h ≡ Ok (core_of stop q) → IsOneUndone m p.number h q.history (core_of stop p) (core_of stop q)
+    one_undone_at : (h : List E) → 0 < length h → undo m (process_core stop p) p.number h ≡ Ok (process_core stop q) → IsOneUndone m p.number h q.history (process_core stop p) (process_core stop q)
     one_undone_at [] l u = absurd (omega arith)
     one_undone_at (e ∷ older) l u =
-        let done = undo_step (core_of stop p) p.number e older (le-ltb (m.time e) 0 (omega arith)) (le-ltb (m.time e) 0 (omega arith)) in
-        let same : after_undoing m (core_of stop p) p.number e older ≡ core_of stop q = cc in
-        let old = cond-true (p.number == p.number) older ((core_of stop p).history p.number) (eq-eqb p.number p.number refl) in
+        let done = undo_step (process_core stop p) p.number e older (le-ltb (m.time e) 0 (omega arith)) (le-ltb (m.time e) 0 (omega arith)) in
+        let same : after_undoing m (process_core stop p) p.number e older ≡ process_core stop q = cc in
+        let old = cond-true (p.number == p.number) older ((process_core stop p).history p.number) (eq-eqb p.number p.number refl) in
         let new = cond-true (p.number == q.number) q.history [] (eq-eqb p.number q.number (sym number)) in
         let left : older ≡ q.history = sym old ∙ (ap (λ D. D.history p.number) same ∙ new) in
         record {
           newest = e;
           was = ap (λ x. e ∷ x) left;
-          undone = sym same ∙ ap (after_undoing m (core_of stop p) p.number e) left;
+          undone = sym same ∙ ap (after_undoing m (process_core stop p) p.number e) left;
         }
 
     -- the machine's step undoes the newest event
-    pub one_undone : 0 < length p.history → undo m (core_of stop p) p.number p.history ≡ Ok (core_of stop q) → IsOneUndone m p.number p.history q.history (core_of stop p) (core_of stop q)
+    pub one_undone : 0 < length p.history → undo m (process_core stop p) p.number p.history ≡ Ok (process_core stop q) → IsOneUndone m p.number p.history q.history (process_core stop p) (process_core stop q)
     one_undone = one_undone_at p.history
 
   module _ (test : E → Bool) (r : ℕ) where
@@ -42,10 +42,10 @@ module _ {S E : Type 0} (m : Simulation S E) where
 
 module _ {S E M : Type 0} (sim : M → Simulation S E) (time stop : ℕ) (o p q : Logical M E) (model : p.model ≡ o.model) (number : p.number ≡ o.number) where
   -- one more is undone
-  pub loop_step : IsOneUndone (sim p.model) p.number p.history q.history (core_of stop p) (core_of stop q) → has_newest (is_from (sim p.model) time) p.history ≡ true
-      → after_undoing_while (sim o.model) (is_from (sim o.model) time) o.number q.history (core_of stop q) ≡ after_undoing_while (sim o.model) (is_from (sim o.model) time) o.number p.history (core_of stop p)
+  pub loop_step : IsOneUndone (sim p.model) p.number p.history q.history (process_core stop p) (process_core stop q) → has_newest (is_from (sim p.model) time) p.history ≡ true
+      → after_undoing_while (sim o.model) (is_from (sim o.model) time) o.number q.history (process_core stop q) ≡ after_undoing_while (sim o.model) (is_from (sim o.model) time) o.number p.history (process_core stop p)
   loop_step u t =
-      undone_next (sim o.model) (is_from (sim o.model) time) o.number (core_of stop p) (core_of stop q) p.history q.history
-      (subst (λ r. IsOneUndone (sim o.model) r p.history q.history (core_of stop p) (core_of stop q)) number
-      (subst (λ x. IsOneUndone (sim x) p.number p.history q.history (core_of stop p) (core_of stop q)) model u))
+      undone_next (sim o.model) (is_from (sim o.model) time) o.number (process_core stop p) (process_core stop q) p.history q.history
+      (subst (λ r. IsOneUndone (sim o.model) r p.history q.history (process_core stop p) (process_core stop q)) number
+      (subst (λ x. IsOneUndone (sim x) p.number p.history q.history (process_core stop p) (process_core stop q)) model u))
       (subst (λ x. has_newest (is_from (sim x) time) p.history ≡ true) model t)

@@ -24,8 +24,8 @@ abbrev pub joined : {M E : Type 0} → Handled M E → List E → List (Signed E
 joined p pending flight = record { model = p.model; number = p.number; history = p.history; pending = pending; flight = flight }
 
 -- a machine in which no other process has handled anything, nothing is committed, and what is undone is taken back at once
-abbrev pub core_of : {M E : Type 0} → ℕ → Logical M E → Core E
-core_of stop p = record {
+abbrev pub process_core : {M E : Type 0} → ℕ → Logical M E → Core E
+process_core stop p = record {
   history = put (λ r. []) p.number p.history;
   pending = p.pending;
   kept = [];

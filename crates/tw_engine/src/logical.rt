@@ -3,7 +3,7 @@
 ghost use Rattle.std.specs.Prelude.{ℕ, ◌≡◌, ◌<◌, ◌≤◌, ◌↔◌, ◌∷◌, [], true, length, IfOk, IsErrOf, OnErr, OnOk, Ok, Err};
 ghost use Rattle.tw_core.specs.Steps.{after_undoing_while, first_pending, handle, undo};
 ghost use Rattle.tw_core.specs.declared.refusal.Refusal.{Refusal as AnyRefusal};
-ghost use Rattle.tw_engine.specs.Process.{AreOwn, IsOneUndone, core_of, has_newest, is_from};
+ghost use Rattle.tw_engine.specs.Process.{AreOwn, IsOneUndone, has_newest, is_from, process_core};
 ghost use Rattle.tw_engine.specs.declared.stopped.Stopped.TheVariants as stopped;
 ghost use Rattle.tw_process.specs.Behaviour.{simulation_of};
 ghost use Rattle.tw_process.specs.declared.limits.TheConstants.{LATEST};
@@ -87,10 +87,10 @@ impl<'a, M: ProcessModel> LogicalProcess<'a, M> {
     pub fn handle_next(&mut self, stop: u64) -> Result<(), Stopped>
         requires { stop ≤ LATEST }
         ensures ok { let m = simulation_of M.Event.parts M.Event.cmp (M.behaviour self.old.model) in
-            OnOk result (handle m (core_of stop self.old) self.old.number (first_pending m (core_of stop self.old) self.old.number) ≡ Ok (core_of stop self.new)) }
+            OnOk result (handle m (process_core stop self.old) self.old.number (first_pending m (process_core stop self.old) self.old.number) ≡ Ok (process_core stop self.new)) }
         ensures refused { let m = simulation_of M.Event.parts M.Event.cmp (M.behaviour self.old.model) in
             (f : AnyRefusal) → IsErrOf result (stopped.Refused f)
-            ↔ (handle m (core_of stop self.old) self.old.number (first_pending m (core_of stop self.old) self.old.number) ≡ Err f) }
+            ↔ (handle m (process_core stop self.old) self.old.number (first_pending m (process_core stop self.old) self.old.number) ≡ Err f) }
         ensures err { OnErr result (self.new ≡ self.old) }
         ensures model { self.new.model ≡ self.old.model }
         ensures number { self.new.number ≡ self.old.number }
@@ -110,10 +110,10 @@ impl<'a, M: ProcessModel> LogicalProcess<'a, M> {
     /// It is the machine's own step, whatever the stop. Where there is no memory it is as it was.
     pub fn undo_last(&mut self) -> Result<(), Stopped>
         ensures ok { let m = simulation_of M.Event.parts M.Event.cmp (M.behaviour self.old.model) in
-            (stop : ℕ) → OnOk result (undo m (core_of stop self.old) self.old.number self.old.history ≡ Ok (core_of stop self.new)) }
+            (stop : ℕ) → OnOk result (undo m (process_core stop self.old) self.old.number self.old.history ≡ Ok (process_core stop self.new)) }
         ensures refused { let m = simulation_of M.Event.parts M.Event.cmp (M.behaviour self.old.model) in
             (stop : ℕ) (f : AnyRefusal) → IsErrOf result (stopped.Refused f)
-            ↔ (undo m (core_of stop self.old) self.old.number self.old.history ≡ Err f) }
+            ↔ (undo m (process_core stop self.old) self.old.number self.old.history ≡ Err f) }
         ensures err { OnErr result (self.new ≡ self.old) }
         ensures model { self.new.model ≡ self.old.model }
         ensures number { self.new.number ≡ self.old.number }
@@ -131,10 +131,10 @@ impl<'a, M: ProcessModel> LogicalProcess<'a, M> {
     /// Where there is no memory, some of them are undone, and undoing what is left leads to the same.
     pub fn undo_to(&mut self, time: u64) -> Result<(), AllocError>
         ensures ok { let m = simulation_of M.Event.parts M.Event.cmp (M.behaviour self.old.model) in
-            (stop : ℕ) → OnOk result (core_of stop self.new ≡ after_undoing_while m (is_from m time) self.old.number self.old.history (core_of stop self.old)) }
+            (stop : ℕ) → OnOk result (process_core stop self.new ≡ after_undoing_while m (is_from m time) self.old.number self.old.history (process_core stop self.old)) }
         ensures err { let m = simulation_of M.Event.parts M.Event.cmp (M.behaviour self.old.model) in
-            (stop : ℕ) → OnErr result (after_undoing_while m (is_from m time) self.old.number self.new.history (core_of stop self.new)
-            ≡ after_undoing_while m (is_from m time) self.old.number self.old.history (core_of stop self.old)) }
+            (stop : ℕ) → OnErr result (after_undoing_while m (is_from m time) self.old.number self.new.history (process_core stop self.new)
+            ≡ after_undoing_while m (is_from m time) self.old.number self.old.history (process_core stop self.old)) }
         ensures model { self.new.model ≡ self.old.model }
         ensures number { self.new.number ≡ self.old.number }
     {
@@ -158,7 +158,7 @@ impl<'a, M: ProcessModel> LogicalProcess<'a, M> {
     fn undo_one(&mut self) -> Result<(), AllocError>
         requires { 0 < length self.old.history }
         ensures ok { let m = simulation_of M.Event.parts M.Event.cmp (M.behaviour self.old.model) in
-            (stop : ℕ) → OnOk result (IsOneUndone m self.old.number self.old.history self.new.history (core_of stop self.old) (core_of stop self.new)) }
+            (stop : ℕ) → OnOk result (IsOneUndone m self.old.number self.old.history self.new.history (process_core stop self.old) (process_core stop self.new)) }
         ensures err { OnErr result (self.new ≡ self.old) }
         ensures model { self.new.model ≡ self.old.model }
         ensures number { self.new.number ≡ self.old.number }

@@ -3,7 +3,7 @@
 ghost use Rattle.std.specs.Prelude.{ℕ, ◌≡◌, ◌+◌, ◌<◌, ◌≤◌, ◌↔◌, ◌++◌, ◌∷◌, [], true, IfSome, IsErrOf, OnErr, OnOk, length, slice_get, vec_capacity, vec_len, map, Ok, Err};
 ghost use Rattle.tw_core.specs.Steps.{first_pending, handle, undo};
 ghost use Rattle.tw_core.specs.declared.refusal.Refusal.{Refusal as AnyRefusal};
-ghost use Rattle.tw_engine.specs.Process.{AreOwn, core_of, joined};
+ghost use Rattle.tw_engine.specs.Process.{AreOwn, joined, process_core};
 ghost use Rattle.tw_engine.specs.declared.stopped.Stopped.TheVariants as stopped;
 ghost use Rattle.tw_process.specs.Behaviour.{simulation_of};
 ghost use Rattle.tw_process.specs.declared.limits.TheConstants.{LATEST};
@@ -45,10 +45,10 @@ pub(crate) fn handle_first<M: ProcessModel>(
     ensures own { AreOwn (simulation_of M.Event.parts M.Event.cmp (M.behaviour past.old.model)) past.old.number pending.new }
     ensures same { past.new ≡ record past.old { history = past.new.history } }
     ensures ok { let m = simulation_of M.Event.parts M.Event.cmp (M.behaviour past.old.model) in
-        let C = core_of stop (joined past.old pending.old flight.old.items) in
-        OnOk result (handle m C past.old.number (first_pending m C past.old.number) ≡ Ok (core_of stop (joined past.new pending.new flight.new.items))) }
+        let C = process_core stop (joined past.old pending.old flight.old.items) in
+        OnOk result (handle m C past.old.number (first_pending m C past.old.number) ≡ Ok (process_core stop (joined past.new pending.new flight.new.items))) }
     ensures refused { let m = simulation_of M.Event.parts M.Event.cmp (M.behaviour past.old.model) in
-        let C = core_of stop (joined past.old pending.old flight.old.items) in
+        let C = process_core stop (joined past.old pending.old flight.old.items) in
         (f : AnyRefusal) → IsErrOf result (stopped.Refused f) ↔ (handle m C past.old.number (first_pending m C past.old.number) ≡ Err f) }
     ensures err { OnErr result (joined past.new pending.new flight.new.items ≡ joined past.old pending.old flight.old.items) }
 {
@@ -94,11 +94,11 @@ pub(crate) fn undo_newest<M: ProcessModel>(
     ensures own { AreOwn (simulation_of M.Event.parts M.Event.cmp (M.behaviour past.old.model)) past.old.number pending.new }
     ensures same { past.new ≡ record past.old { history = past.new.history } }
     ensures ok { let m = simulation_of M.Event.parts M.Event.cmp (M.behaviour past.old.model) in
-        (stop : ℕ) → OnOk result (undo m (core_of stop (joined past.old pending.old flight.old.items)) past.old.number past.old.history
-        ≡ Ok (core_of stop (joined past.new pending.new flight.new.items))) }
+        (stop : ℕ) → OnOk result (undo m (process_core stop (joined past.old pending.old flight.old.items)) past.old.number past.old.history
+        ≡ Ok (process_core stop (joined past.new pending.new flight.new.items))) }
     ensures refused { let m = simulation_of M.Event.parts M.Event.cmp (M.behaviour past.old.model) in
         (stop : ℕ) (f : AnyRefusal) → IsErrOf result (stopped.Refused f)
-        ↔ (undo m (core_of stop (joined past.old pending.old flight.old.items)) past.old.number past.old.history ≡ Err f) }
+        ↔ (undo m (process_core stop (joined past.old pending.old flight.old.items)) past.old.number past.old.history ≡ Err f) }
     ensures err { OnErr result (joined past.new pending.new flight.new.items ≡ joined past.old pending.old flight.old.items) }
 {
     past.keeps_laws();

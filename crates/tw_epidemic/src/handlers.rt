@@ -1,8 +1,8 @@
-//! An epidemic as a model: its forward and its reverse handler.
+//! An epidemic as a model: what a contact does and sends, and the way back.
 
-ghost use Rattle.std.specs.Prelude.{◌≡◌, ◌+◌, ◌-◌, ◌<◌, ◌≤◌, ◌++◌, not, vec_capacity, vec_len};
+ghost use Rattle.std.specs.Prelude.{◌≡◌, ◌<◌, not};
 ghost use Rattle.tw_process.specs.declared.limits.TheConstants.{LATEST};
-ghost use Rattle.tw_epidemic.specs.Epidemic.{behaviour_of, contact, contacts};
+ghost use Rattle.tw_epidemic.specs.Epidemic.{behaviour_of, contact};
 
 use crate::epidemic::{Cell, Epidemic, MOST_CONTACTS};
 use std::alloc::{AllocError, Global};
@@ -20,19 +20,6 @@ impl Epidemic {
         let there = (here + u64::from(places)) % u64::from(cells);
         let delay = 1 + (31 * here + 17 * there) % u64::from(longest);
         event.send(delay, there as u32, number, ())
-    }
-
-    // The contacts that an infected cell makes.
-    fn make_contacts(&self, event: &Event<()>, sends: &mut Vec<Event<()>>)
-        requires time { event.now.time < LATEST }
-        requires room { vec_len sends.old + 4 ≤ vec_capacity sends.old }
-        ensures sends { sends.new.items ≡ sends.old.items ++ contacts self.now event.now }
-        ensures capacity { vec_capacity sends.old ≤ vec_capacity sends.new }
-    {
-        sends.push_reserved(self.contact(event, 1, 1));
-        sends.push_reserved(self.contact(event, self.cells - 1, 2));
-        sends.push_reserved(self.contact(event, self.width, 3));
-        sends.push_reserved(self.contact(event, self.cells - self.width, 4));
     }
 }
 
@@ -80,41 +67,34 @@ impl ProcessModel for Epidemic {
         event.dst < self.cells
     }
 
-    fn forward(
-        &self,
-        _number: u32,
-        cell: &mut Cell,
-        event: &Event<()>,
-        sends: &mut Vec<Event<()>>,
-    ) -> Result<bool, Refused> {
+    fn receive(&self, _number: u32, cell: &mut Cell, _event: &Event<()>) -> Result<bool, Refused> {
         if cell.contacts >= MOST_CONTACTS {
             return Err(Refused::CounterFull);
         }
         let infects = !cell.infected;
-        if infects {
-            self.make_contacts(event, sends);
-        }
         cell.infected = true;
         cell.contacts += 1;
         Ok(infects)
     }
 
+    fn send(
+        &self,
+        _number: u32,
+        _cell: &Cell,
+        event: &Event<()>,
+        infects: bool,
+        sends: &mut Vec<Event<()>>,
+    ) {
+        if infects {
+            sends.push_reserved(self.contact(event, 1, 1));
+            sends.push_reserved(self.contact(event, self.cells - 1, 2));
+            sends.push_reserved(self.contact(event, self.width, 3));
+            sends.push_reserved(self.contact(event, self.cells - self.width, 4));
+        }
+    }
+
     fn take_back(&self, _number: u32, cell: &mut Cell, _event: &Event<()>, infected: bool) {
         cell.infected = !infected;
         cell.contacts -= 1;
-    }
-
-    fn reverse(
-        &self,
-        number: u32,
-        cell: &mut Cell,
-        event: &Event<()>,
-        infected: bool,
-        sends: &mut Vec<Event<()>>,
-    ) {
-        self.take_back(number, cell, event, infected);
-        if infected {
-            self.make_contacts(event, sends);
-        }
     }
 }

@@ -6,7 +6,7 @@ use Rattle.std.proofs.lemmas.List.Sums.{fold-append}
 use Rattle.std.specs.List.{fold}
 use Rattle.std.specs.declared.vec.Vec.{Vec}
 use Rattle.tw_event.specs.declared.event.Event.{Event}
-use Rattle.tw_exchange.specs.Board.{NoneDealt, times}
+use Rattle.tw_exchange.specs.Board.{NoneDealt, message_times}
 use Rattle.tw_exchange.specs.Rows.{HasRoomBehind, behind, items, soonest_of}
 use Rattle.tw_exchange.specs.declared.mail.TheConstants.{NEVER}
 use Rattle.tw_exchange.proofs.Least.{at_most, least_of_two}
@@ -50,11 +50,11 @@ module _ {X : Type 0} where
 soonest_both : (xs ys : List (Signed Event)) → soonest_of (xs ++ ys) ≡ min (soonest_of xs) (soonest_of ys)
 soonest_both xs ys =
     let s = soonest_of xs in
-    let most : s ≤ NEVER = at_most NEVER (times xs) in
+    let most : s ≤ NEVER = at_most NEVER (message_times xs) in
     let cap : s ≡ min NEVER s = omega arith in
     let swap : min (soonest_of ys) s ≡ min s (soonest_of ys) = omega arith in
     ap (fold min NEVER) (map-append (λ y. y.event.time) xs ys)
-    ∙ (fold-append min NEVER (times xs) (times ys) ∙ (ap (λ n. fold min n (times ys)) cap ∙ (least_of_two NEVER s (times ys) ∙ swap)))
+    ∙ (fold-append min NEVER (message_times xs) (message_times ys) ∙ (ap (λ n. fold min n (message_times ys)) cap ∙ (least_of_two NEVER s (message_times ys) ∙ swap)))
 
 module _ {Z : Type 0} where
   -- ---- room

@@ -6,7 +6,7 @@ use Rattle.std.proofs.lemmas.List.{get_or-set_other, get_or-set_same, get_or_pas
 use Rattle.std.specs.List.{AllByRecursion, filter, list_any}
 use Rattle.std.specs.Option.{option_map_or}
 use Rattle.tw_event.specs.declared.event.Event.{Event}
-use Rattle.tw_exchange.specs.Board.{Board, IsBoard, deposited, handed, is_early, is_for, least_report, mail_of, opening, sent_to, visited, who, worker_for, workers}
+use Rattle.tw_exchange.specs.Board.{Board, IsBoard, deposited, handed, is_early, is_for, least_report, mail_of, new_board, sent_to, visited, who, worker_for, workers}
 use Rattle.tw_exchange.specs.Rows.{soonest_of}
 use Rattle.tw_exchange.specs.declared.mail.TheConstants.{NEVER}
 use Rattle.tw_exchange.proofs.Followed.{followed_of, length_followed}
@@ -26,14 +26,14 @@ first_reports zero b w = tt
 first_reports (suc n) b zero = omega arith
 first_reports (suc n) b (suc w) = first_reports n b w
 
-pub opening_board : (owners : Option (List ℕ)) (n b stop : ℕ) → b ≤ stop → IsBoard (record (opening n b stop) { owners = owners })
+pub opening_board : (owners : Option (List ℕ)) (n b stop : ℕ) → b ≤ stop → IsBoard (record (new_board n b stop) { owners = owners })
 opening_board owners n b stop h =
     let none : List (Signed Event) = [] in
     let long = length-replicate n none in
     let told = length-replicate n (Some b) in
     record {
       mails = long ∙ sym told;
-      home = λ w. subst (AllByRecursion (λ m. is_for (who (record (opening n b stop) { owners = owners })) w m ≡ true)) (sym (no_mail n w)) tt;
+      home = λ w. subst (AllByRecursion (λ m. is_for (who (record (new_board n b stop) { owners = owners })) w m ≡ true)) (sym (no_mail n w)) tt;
       late = λ w. subst (AllByRecursion (λ m. b ≤ m.event.time)) (sym (no_mail n w)) tt;
       reported = first_reports n b;
       stop = h;

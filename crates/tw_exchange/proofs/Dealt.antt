@@ -5,7 +5,7 @@ use Rattle.std.proofs.lemmas.List.{ext_get_or, get_or-replicate, get_or_past, le
 use Rattle.std.specs.List.{AllByRecursion, filter, fold, list_any}
 use Rattle.std.specs.Option.{option_map_or}
 use Rattle.tw_event.specs.declared.event.Event.{Event}
-use Rattle.tw_exchange.specs.Board.{AreDealt, Board, any_homeless, followed, is_early, is_for, least_report, sent_to, times, worker_for, workers}
+use Rattle.tw_exchange.specs.Board.{AreDealt, Board, any_homeless, followed, is_early, is_for, least_report, message_times, sent_to, worker_for, workers}
 use Rattle.tw_exchange.specs.Rows.{any_early, behind, lesser_time, soonest_of}
 use Rattle.tw_exchange.specs.declared.mail.TheConstants.{NEVER}
 use Rattle.tw_exchange.proofs.Behind.{behind_at, length_behind}
@@ -137,7 +137,7 @@ min_early s t b =
       ])
     ]
 
-fold_early : (s b : ℕ) (ms : List (Signed Event)) → nat_lt (fold min s (times ms)) b ≡ (nat_lt s b || list_any (λ m. nat_lt m.event.time b) ms)
+fold_early : (s b : ℕ) (ms : List (Signed Event)) → nat_lt (fold min s (message_times ms)) b ≡ (nat_lt s b || list_any (λ m. nat_lt m.event.time b) ms)
 fold_early s b [] = or_false (nat_lt s b)
 fold_early s b (m ∷ ms) =
     let t = m.event.time in
@@ -160,14 +160,14 @@ early_found report bound row lists is end =
 pub report_found : (report : Option ℕ) (m : Signed Event) (ms : List (Signed Event)) → m.event.time ≤ NEVER → Some (lesser_time (soonest_of (m ∷ ms)) report) ≡ least_report report (m ∷ ms)
 report_found None m ms end =
     let cap : min NEVER m.event.time ≡ m.event.time = omega arith in
-    ap (λ t. Some (fold min t (times ms))) cap
+    ap (λ t. Some (fold min t (message_times ms))) cap
 report_found (Some a) m ms end =
     let t = m.event.time in
     let cap : min NEVER t ≡ t = omega arith in
     let swap : min t a ≡ min a t = omega arith in
-    let two : fold min (min t a) (times ms) ≡ min (fold min t (times ms)) a = least_of_two t a (times ms) in
-    let turn : min a (fold min t (times ms)) ≡ min (fold min t (times ms)) a = omega arith in
-    ap (λ s. Some (min a (fold min s (times ms)))) cap ∙ (ap Some (turn ∙ sym two) ∙ ap (λ s. Some (fold min s (times ms))) swap)
+    let two : fold min (min t a) (message_times ms) ≡ min (fold min t (message_times ms)) a = least_of_two t a (message_times ms) in
+    let turn : min a (fold min t (message_times ms)) ≡ min (fold min t (message_times ms)) a = omega arith in
+    ap (λ s. Some (min a (fold min s (message_times ms)))) cap ∙ (ap Some (turn ∙ sym two) ∙ ap (λ s. Some (fold min s (message_times ms))) swap)
 
 pub report_at : (report : Option ℕ) (ms : List (Signed Event)) (d : Signed Event) (least r : ℕ) → (length ms == 0) ≡ false → (get_or ms 0 d).event.time < 2 ^ 64 → least ≡ soonest_of ms
     → r ≡ lesser_time least report → Some r ≡ least_report report ms

@@ -7,7 +7,7 @@ use Rattle.std.proofs.lemmas.List.Sums.{fold-append}
 use Rattle.std.specs.List.{fold}
 use Rattle.std.specs.declared.vec.Vec.{Vec}
 use Rattle.tw_event.specs.declared.event.Event.{Event}
-use Rattle.tw_exchange.specs.Board.{followed, is_for, sent_to, times}
+use Rattle.tw_exchange.specs.Board.{followed, is_for, message_times, sent_to}
 use Rattle.tw_exchange.specs.Rows.{items, soonest_of}
 use Rattle.tw_exchange.specs.declared.mail.TheConstants.{NEVER}
 use Rattle.tw_exchange.proofs.Rooms.{items_at, items_set, length_items}
@@ -101,6 +101,6 @@ module _ {Z : Type 0} where
       let was : get_or soonest o 0 ≡ soonest_of ys =
       (ap (λ r. get_or r o 0) row ∙ (get_or-map soonest_of (items mail) o [] 0 (omega arith) ∙ ap soonest_of (items_at mail o place below))) in
       let is : soonest_of (ys ++ x ∷ []) ≡ min (soonest_of ys) x.event.time =
-      (ap (fold min NEVER) (map-append (λ y. y.event.time) ys (x ∷ [])) ∙ fold-append min NEVER (times ys) (x.event.time ∷ [])) in
+      (ap (fold min NEVER) (map-append (λ y. y.event.time) ys (x ∷ [])) ∙ fold-append min NEVER (message_times ys) (x.event.time ∷ [])) in
       let now : t ≡ soonest_of (ys ++ x ∷ []) = least ∙ (ap (λ k. min k x.event.time) was ∙ sym is) in
       (λ j. set (row j) o (now j)) ∙ (sym (map-set soonest_of (items mail) o (ys ++ x ∷ [])) ∙ ap (map soonest_of) (sym (items_set mail o v (ys ++ x ∷ []) put)))

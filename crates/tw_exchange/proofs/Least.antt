@@ -5,7 +5,7 @@ use Rattle.std.proofs.lemmas.List.Sums.{fold-append}
 use Rattle.std.specs.List.{AllByRecursion, flat_map, fold, reduce}
 use Rattle.std.specs.Option.{MatchOption, option_to_list}
 use Rattle.tw_event.specs.declared.event.Event.{Event}
-use Rattle.tw_exchange.specs.Board.{least_bound, least_report, times}
+use Rattle.tw_exchange.specs.Board.{least_bound, least_report, message_times}
 use Rattle.tw_exchange.specs.Rows.{lesser_time, soonest_of}
 use Rattle.tw_exchange.specs.declared.mail.TheConstants.{NEVER}
 use Rattle.tw_sim.specs.declared.machine.Signed.{Signed}
@@ -44,23 +44,23 @@ at_most s [] = omega arith
 at_most s (x ∷ xs) = let h = at_most (min s x) xs in omega arith
 
 -- the least time of all mail is that of the soonest of each worker's
-mail_found : (s : ℕ) (mail : List (List (Signed Event))) → s ≤ NEVER → fold min s (times (flat_map (λ m. m) mail)) ≡ fold min s (map soonest_of mail)
+mail_found : (s : ℕ) (mail : List (List (Signed Event))) → s ≤ NEVER → fold min s (message_times (flat_map (λ m. m) mail)) ≡ fold min s (map soonest_of mail)
 mail_found s [] end = refl
 mail_found s (m ∷ ms) end =
     let cap : min NEVER s ≡ s = omega arith in
-    let here : fold min s (times m) ≡ min s (soonest_of m) =
-    (ap (λ n. fold min n (times m)) (sym cap) ∙ (least_of_two NEVER s (times m) ∙ (let swap : min (soonest_of m) s ≡ min s (soonest_of m) = omega arith in swap))) in
+    let here : fold min s (message_times m) ≡ min s (soonest_of m) =
+    (ap (λ n. fold min n (message_times m)) (sym cap) ∙ (least_of_two NEVER s (message_times m) ∙ (let swap : min (soonest_of m) s ≡ min s (soonest_of m) = omega arith in swap))) in
     let below : min s (soonest_of m) ≤ NEVER = omega arith in
     ap (fold min s) (map-append (λ x. x.event.time) m (flat_map (λ m. m) ms))
-    ∙ (fold-append min s (times m) (times (flat_map (λ m. m) ms))
-    ∙ (ap (λ n. fold min n (times (flat_map (λ m. m) ms))) here ∙ mail_found (min s (soonest_of m)) ms below))
+    ∙ (fold-append min s (message_times m) (message_times (flat_map (λ m. m) ms))
+    ∙ (ap (λ n. fold min n (message_times (flat_map (λ m. m) ms))) here ∙ mail_found (min s (soonest_of m)) ms below))
 
 -- the bound, from the row of least times
 pub bound_found : (reports : List (Option ℕ)) (mail : List (List (Signed Event))) (stop : ℕ) → stop ≤ NEVER
     → least_bound reports mail stop ≡ fold min (fold min stop (map soonest_of mail)) (flat_map option_to_list reports)
 bound_found reports mail stop end =
     let told = flat_map option_to_list reports in
-    let waits = times (flat_map (λ m. m) mail) in
+    let waits = message_times (flat_map (λ m. m) mail) in
     fold-append min stop told waits ∙ (either_order stop told waits ∙ ap (λ n. fold min n told) (mail_found stop mail end))
 
 -- ---- what is not before a time
@@ -90,11 +90,11 @@ reports_all P [] h = tt
 reports_all P (None ∷ rs) h = reports_all P rs (λ w. h (suc w))
 reports_all P (Some a ∷ rs) h = (h zero, reports_all P rs (λ w. h (suc w)))
 
-all_times : (P : ℕ → Type 0) (ms : List (Signed Event)) → AllByRecursion (λ m. P m.event.time) ms → AllByRecursion P (times ms)
+all_times : (P : ℕ → Type 0) (ms : List (Signed Event)) → AllByRecursion (λ m. P m.event.time) ms → AllByRecursion P (message_times ms)
 all_times P [] h = tt
 all_times P (m ∷ ms) h = (h.0, all_times P ms h.1)
 
-times_all : (P : ℕ → Type 0) (ms : List (Signed Event)) → AllByRecursion P (times ms) → AllByRecursion (λ m. P m.event.time) ms
+times_all : (P : ℕ → Type 0) (ms : List (Signed Event)) → AllByRecursion P (message_times ms) → AllByRecursion (λ m. P m.event.time) ms
 times_all P [] h = tt
 times_all P (m ∷ ms) h = (h.0, times_all P ms h.1)
 
@@ -121,19 +121,19 @@ not_before b s (x ∷ xs) h k = let first = k.0 in not_before b (min s x) xs (om
 
 -- the bound is not beyond the stop, a report, or the time of any mail
 pub bound_stop : (reports : List (Option ℕ)) (mail : List (List (Signed Event))) (stop : ℕ) → least_bound reports mail stop ≤ stop
-bound_stop reports mail stop = at_most stop (flat_map option_to_list reports ++ times (flat_map (λ m. m) mail))
+bound_stop reports mail stop = at_most stop (flat_map option_to_list reports ++ message_times (flat_map (λ m. m) mail))
 
 pub bound_reports : (reports : List (Option ℕ)) (mail : List (List (Signed Event))) (stop w : ℕ) → IfSome (get_or reports w None) (λ time. least_bound reports mail stop ≤ time)
 bound_reports reports mail stop w =
     let told = flat_map option_to_list reports in
-    let waits = times (flat_map (λ m. m) mail) in
+    let waits = message_times (flat_map (λ m. m) mail) in
     let P : ℕ → Type 0 = λ time. least_bound reports mail stop ≤ time in
     reports_each P reports (all_left P told waits (least_below stop (told ++ waits))) w
 
 pub bound_mail : (reports : List (Option ℕ)) (mail : List (List (Signed Event))) (stop w : ℕ) → AllByRecursion (λ m. least_bound reports mail stop ≤ m.event.time) (get_or mail w [])
 bound_mail reports mail stop w =
     let told = flat_map option_to_list reports in
-    let waits = times (flat_map (λ m. m) mail) in
+    let waits = message_times (flat_map (λ m. m) mail) in
     let P : ℕ → Type 0 = λ time. least_bound reports mail stop ≤ time in
     mail_each (λ m. P m.event.time) mail (times_all P (flat_map (λ m. m) mail) (all_right P told waits (least_below stop (told ++ waits)))) w
 
@@ -142,7 +142,7 @@ pub bound_rises : (b : ℕ) (reports : List (Option ℕ)) (mail : List (List (Si
     → ((w : ℕ) → AllByRecursion (λ m. b ≤ m.event.time) (get_or mail w [])) → b ≤ least_bound reports mail stop
 bound_rises b reports mail stop h r m =
     let told = flat_map option_to_list reports in
-    let waits = times (flat_map (λ m. m) mail) in
+    let waits = message_times (flat_map (λ m. m) mail) in
     let P : ℕ → Type 0 = λ time. b ≤ time in
     not_before b stop (told ++ waits) h (all_both P told waits (reports_all P reports r) (all_times P (flat_map (λ m. m) mail) (mail_all (λ m. P m.event.time) mail m)))
 
@@ -150,23 +150,23 @@ bound_rises b reports mail stop h r m =
 pub report_rises : (b : ℕ) (report : Option ℕ) (messages : List (Signed Event)) → IfSome report (λ time. b ≤ time) → AllByRecursion (λ m. b ≤ m.event.time) messages
     → IfSome (least_report report messages) (λ time. b ≤ time)
 report_rises b None [] h k = tt
-report_rises b None (m ∷ ms) h k = not_before b m.event.time (times ms) k.0 (all_times (λ time. b ≤ time) ms k.1)
-report_rises b (Some a) ms h k = not_before b a (times ms) h (all_times (λ time. b ≤ time) ms k)
+report_rises b None (m ∷ ms) h k = not_before b m.event.time (message_times ms) k.0 (all_times (λ time. b ≤ time) ms k.1)
+report_rises b (Some a) ms h k = not_before b a (message_times ms) h (all_times (λ time. b ≤ time) ms k)
 
 -- what is not after the least of times is after none of them
-lowered : (b s : ℕ) (ms : List (Signed Event)) → b ≤ fold min s (times ms) → AllByRecursion (λ m. b ≤ m.event.time) ms
-lowered b s ms h = times_all (λ t. b ≤ t) ms (weaker (λ t. fold min s (times ms) ≤ t) (λ t. b ≤ t) (λ t k. omega arith) (times ms) (least_below s (times ms)))
+lowered : (b s : ℕ) (ms : List (Signed Event)) → b ≤ fold min s (message_times ms) → AllByRecursion (λ m. b ≤ m.event.time) ms
+lowered b s ms h = times_all (λ t. b ≤ t) ms (weaker (λ t. fold min s (message_times ms) ≤ t) (λ t. b ≤ t) (λ t k. omega arith) (message_times ms) (least_below s (message_times ms)))
 
 -- nothing is before the least report
 pub report_below : (b : ℕ) (report : Option ℕ) (messages : List (Signed Event)) → IfSome (least_report report messages) (λ time. b ≤ time) → AllByRecursion (λ m. b ≤ m.event.time) messages
 report_below b None [] h = tt
-report_below b None (m ∷ ms) h = let k = at_most m.event.time (times ms) in (omega arith, lowered b m.event.time ms h)
+report_below b None (m ∷ ms) h = let k = at_most m.event.time (message_times ms) in (omega arith, lowered b m.event.time ms h)
 report_below b (Some a) ms h = lowered b a ms h
 
 -- nor is any mail before the bound
 pub bound_all : (reports : List (Option ℕ)) (mail : List (List (Signed Event))) (stop : ℕ) → AllByRecursion (λ m. least_bound reports mail stop ≤ m.event.time) (flat_map (λ m. m) mail)
 bound_all reports mail stop =
     let told = flat_map option_to_list reports in
-    let waits = times (flat_map (λ m. m) mail) in
+    let waits = message_times (flat_map (λ m. m) mail) in
     let P : ℕ → Type 0 = λ time. least_bound reports mail stop ≤ time in
     times_all P (flat_map (λ m. m) mail) (all_right P told waits (least_below stop (told ++ waits)))

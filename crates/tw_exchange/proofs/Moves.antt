@@ -5,7 +5,7 @@ use Rattle.std.specs.List.{AllByRecursion}
 use Rattle.std.specs.Option.{option_map}
 use Rattle.std.specs.Vec.{with_items}
 use Rattle.tw_event.specs.declared.event.Event.{Event}
-use Rattle.tw_exchange.specs.Board.{Board, IsBoard, all_mail, given, is_to, is_to_another, who, without_mail}
+use Rattle.tw_exchange.specs.Board.{Board, IsBoard, all_mail, is_to, is_to_another, who, with_owner, without_mail}
 use Rattle.tw_exchange.specs.Inside.{IsExchange, board_of}
 use Rattle.tw_exchange.specs.Owners.{list_of}
 use Rattle.tw_exchange.specs.Rows.{items, soonest_of}
@@ -14,7 +14,7 @@ use Rattle.tw_exchange.proofs.Moving.{given_board, left_out, without_board}
 use Rattle.tw_sim.specs.declared.machine.Signed.{Signed}
 
 -- b is a once worker w has router r
-pub record IsGiven (a b : Inside) (r w : ℕ) : Type 0 where
+pub record IsWithOwner (a b : Inside) (r w : ℕ) : Type 0 where
   pub owners : list_of b.owners ≡ option_map (λ list. set list r w) (list_of a.owners)
   pub mail : b.mail.items ≡ a.mail.items
   pub soonest : b.soonest.items ≡ a.soonest.items
@@ -24,10 +24,10 @@ pub record IsGiven (a b : Inside) (r w : ℕ) : Type 0 where
   pub stop : b.stop ≡ a.stop
   pub halted : b.halted ≡ a.halted
 
-pub board_given : (a b : Inside) (r w : ℕ) → IsGiven a b r w → board_of b ≡ given r w (board_of a)
+pub board_given : (a b : Inside) (r w : ℕ) → IsWithOwner a b r w → board_of b ≡ with_owner r w (board_of a)
 board_given a b r w p = λ i. record { owners = p.owners i; mail = items (p.mail i); reports = p.reports i; bound = p.bound i; stop = p.stop i; halted = p.halted i }
 
-pub exchange_given : (a b : Inside) (r w : ℕ) (x : Board) → IsExchange a → board_of a ≡ x → IsGiven a b r w → AllByRecursion (λ m. is_to r m ≡ false) (all_mail x) → IsExchange b
+pub exchange_given : (a b : Inside) (r w : ℕ) (x : Board) → IsExchange a → board_of a ≡ x → IsWithOwner a b r w → AllByRecursion (λ m. is_to r m ≡ false) (all_mail x) → IsExchange b
 exchange_given a b r w x h is p none = record {
   board = subst IsBoard (sym (board_given a b r w p)) (given_board r w (board_of a) h.board (subst (λ y. AllByRecursion (λ m. is_to r m ≡ false) (all_mail y)) (sym is) none));
   soonest = p.soonest ∙ (h.soonest ∙ ap (λ rows. map soonest_of (items rows)) (sym p.mail));

@@ -5,7 +5,7 @@ use Rattle.std.proofs.lemmas.List.{get_or-set_other, length-map, length-set}
 use Rattle.std.specs.List.{AllByRecursion, range_with_len}
 use Rattle.std.specs.Option.{option_map}
 use Rattle.tw_event.specs.declared.event.Event.{Event}
-use Rattle.tw_exchange.specs.Board.{Board, IsBoard, all_mail, given, is_for, is_to, is_to_another, listed, mail_of, who, without_mail, worker_for, workers}
+use Rattle.tw_exchange.specs.Board.{Board, IsBoard, all_mail, is_for, is_to, is_to_another, listed, mail_of, who, with_owner, without_mail, worker_for, workers}
 use Rattle.tw_exchange.proofs.Boards.{kept, reports_rise}
 use Rattle.tw_exchange.proofs.Least.{all_both, mail_each}
 use Rattle.tw_sim.specs.declared.machine.Signed.{Signed}
@@ -22,9 +22,9 @@ same_worker : (owners : Option (List ℕ)) (n r w k : ℕ) → (k ≡ r → ⊥)
 same_worker None n r w k ne = refl
 same_worker (Some list) n r w k ne = get_or-set_other list r k w n ne
 
-pub given_board : (r w : ℕ) (x : Board) → IsBoard x → AllByRecursion (λ m. is_to r m ≡ false) (all_mail x) → IsBoard (given r w x)
+pub given_board : (r w : ℕ) (x : Board) → IsBoard x → AllByRecursion (λ m. is_to r m ≡ false) (all_mail x) → IsBoard (with_owner r w x)
 given_board r w x h none =
-    let y = given r w x in
+    let y = with_owner r w x in
     let now : Option ℕ = Some x.bound in
     let as_many : workers y ≡ workers x = length-set x.reports w now in
     record {

@@ -69,16 +69,16 @@ abbrev pub handed : ℕ → List (Signed Event) → Board → List (Signed Event
 handed w out x = mail_of w x ++ sent_to (who x) w out
 
 -- the times of messages
-abbrev pub times : List (Signed Event) → List ℕ
-times messages = map (λ m. m.event.time) messages
+abbrev pub message_times : List (Signed Event) → List ℕ
+message_times messages = map (λ m. m.event.time) messages
 
 -- the least of a report, if there is one, and of the times of messages
 abbrev pub least_report : Option ℕ → List (Signed Event) → Option ℕ
-least_report report messages = reduce min (option_to_list report ++ times messages)
+least_report report messages = reduce min (option_to_list report ++ message_times messages)
 
 -- the least of all reports, of the times of all mail, and of the stop
 abbrev pub least_bound : List (Option ℕ) → List (List (Signed Event)) → ℕ → ℕ
-least_bound reports mail stop = fold min stop (flat_map option_to_list reports ++ times (flat_map (λ m. m) mail))
+least_bound reports mail stop = fold min stop (flat_map option_to_list reports ++ message_times (flat_map (λ m. m) mail))
 
 -- after a visit of worker w, which deposits out, reports what it has and takes its mail
 abbrev pub visited : ℕ → List (Signed Event) → Option ℕ → Board → Board
@@ -127,16 +127,16 @@ abbrev pub listed : ℕ → Board → Board
 listed routers x = record x { owners = Some (map (who x) (range_with_len 0 routers)) }
 
 -- once worker w has router r, and reports the bound, since it may have anything of that router
-abbrev pub given : ℕ → ℕ → Board → Board
-given r w x = record x { owners = option_map (λ list. slice_set list r w) x.owners; reports = slice_set x.reports w (Some x.bound) }
+abbrev pub with_owner : ℕ → ℕ → Board → Board
+with_owner r w x = record x { owners = option_map (λ list. slice_set list r w) x.owners; reports = slice_set x.reports w (Some x.bound) }
 
 -- for so many workers, each of which has what is not before the bound
-abbrev pub opening : ℕ → ℕ → ℕ → Board
-opening workers bound stop = record { owners = None; mail = replicate workers []; reports = replicate workers (Some bound); bound = bound; stop = stop; halted = false }
+abbrev pub new_board : ℕ → ℕ → ℕ → Board
+new_board workers bound stop = record { owners = None; mail = replicate workers []; reports = replicate workers (Some bound); bound = bound; stop = stop; halted = false }
 
 -- and with a list of the worker of each router
 abbrev pub opening_owned : List ℕ → ℕ → ℕ → ℕ → Board
-opening_owned owners workers bound stop = record (opening workers bound stop) { owners = Some owners }
+opening_owned owners workers bound stop = record (new_board workers bound stop) { owners = Some owners }
 
 -- nothing on it is before the bound, and each message waits for the worker that it is for
 pub record IsBoard (x : Board) : Type 0 where

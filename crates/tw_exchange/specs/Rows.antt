@@ -4,7 +4,7 @@ use Rattle.std.specs.List.{list_any}
 use Rattle.std.specs.Option.{option_map_or}
 use Rattle.std.specs.declared.vec.Vec.{Vec}
 use Rattle.tw_event.specs.declared.event.Event.{Event}
-use Rattle.tw_exchange.specs.Board.{times}
+use Rattle.tw_exchange.specs.Board.{message_times}
 use Rattle.tw_exchange.specs.declared.mail.TheConstants.{NEVER}
 use Rattle.tw_sim.specs.declared.machine.Signed.{Signed}
 
@@ -14,7 +14,7 @@ items rows = map (λ row. row.items) rows
 
 -- the least time of messages, and the end of time where there are none
 abbrev pub soonest_of : List (Signed Event) → ℕ
-soonest_of messages = fold min NEVER (times messages)
+soonest_of messages = fold min NEVER (message_times messages)
 
 -- the lesser of a time and of a report, if there is one
 abbrev pub lesser_time : ℕ → Option ℕ → ℕ

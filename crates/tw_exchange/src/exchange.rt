@@ -2,7 +2,7 @@
 
 ghost use Rattle.std.specs.Prelude.{◌≡◌, ◌↔◌, ◌<◌, ◌≤◌, IfErr, IfOk, IsTrue, OnErr, OnOk, false, true, length, Err};
 ghost use Rattle.std.specs.Result.{IsErrAnd};
-ghost use Rattle.tw_exchange.specs.Board.{IsBoard, handed, is_early, is_homeless, mail_of, opening, opening_owned, report_of, visited, workers};
+ghost use Rattle.tw_exchange.specs.Board.{IsBoard, handed, is_early, is_homeless, mail_of, new_board, opening_owned, report_of, visited, workers};
 ghost use Rattle.tw_exchange.specs.Owners.{list_of};
 ghost use Rattle.tw_exchange.specs.declared.visit.VisitFault.TheVariants.{Early, NoRouter, NoWorker};
 ghost use Rattle.tw_model.specs.declared.memory.OrMemory.TheVariants as or_memory;
@@ -54,7 +54,7 @@ impl Exchange {
     /// stop; both are in ticks. Routers are dealt out to workers in turn: router r is worker r mod `workers`'s.
     pub fn new(alloc: Global, workers: u32, bound: u64, stop: u64) -> Result<Exchange, AllocError>
         requires { bound ≤ stop }
-        ensures { IfOk result (λ x. x ≡ opening workers bound stop) }
+        ensures { IfOk result (λ x. x ≡ new_board workers bound stop) }
     {
         Exchange::open(alloc, workers, bound, stop, Owners::InTurn)
     }
@@ -83,7 +83,7 @@ impl Exchange {
         owners: Owners,
     ) -> Result<Exchange, AllocError>
         requires { bound ≤ stop }
-        ensures { IfOk result (λ x. x ≡ record (opening workers bound stop) { owners = list_of owners }) }
+        ensures { IfOk result (λ x. x ≡ record (new_board workers bound stop) { owners = list_of owners }) }
     {
         Ok(Exchange {
             alloc,

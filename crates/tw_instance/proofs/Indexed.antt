@@ -14,7 +14,7 @@ use Rattle.tw_instance.specs.Extensions.{HasExtensions, HasRow}
 use Rattle.tw_instance.specs.Guesses.{AreGuesses}
 use Rattle.tw_instance.specs.Hops.{peers_of}
 use Rattle.tw_instance.specs.Peers.{HasPeers}
-use Rattle.tw_instance.specs.Sparse.{AreCut}
+use Rattle.tw_instance.specs.Sparse.{AreRowsOf}
 use Rattle.tw_instance.specs.declared.extensions.Extensions.{Extensions}
 use Rattle.tw_instance.specs.declared.peers.Peers.{Peers}
 use Rattle.tw_instance.proofs.Links.{no_hops}
@@ -54,7 +54,7 @@ at_slot net v w k low is =
     (there, sym at)
 
 -- rows behind one another hold the neighbours of each router
-pub has_peers : (net : Net) (t : Peers) → IsNet net → AreCut (peers_of net) net.nodes t.starts.items t.neighbours.items
+pub has_peers : (net : Net) (t : Peers) → IsNet net → AreRowsOf (peers_of net) net.nodes t.starts.items t.neighbours.items
     → length t.guesses.items ≡ net.nodes
     → ((v : ℕ) → v < net.nodes → AreGuesses (peers_of net v) (get_or t.guesses.items v [])) → HasPeers net t
 has_peers net t h so long right = record {

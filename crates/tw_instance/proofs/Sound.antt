@@ -36,14 +36,14 @@ is_router net v h = record {
 }
 
 -- what is known of the whole
-pub record IsWhole (net : Net) : Type 0 where
+pub record IsSoundNet (net : Net) : Type 0 where
   pub kept : IsNet net
   pub some : 1 ≤ net.nodes
   pub most : net.nodes ≤ MOST_ROUTERS
   pub few_paths : length (paths net) ≤ MOST_PATHS * (MOST_ROUTERS - 1) + 2
   pub distinct : AreDistinct net
 
-pub is_whole : (net : Net) → IsNet net → IsWhole net
+pub is_whole : (net : Net) → IsNet net → IsSoundNet net
 is_whole net h = record {
   kept = h;
   some = (nodes_within net.nodes h.nodes).0;

@@ -3,11 +3,11 @@ use Rattle.std.proofs.Common.{◌≡◌, ℕ, ◌+◌, ◌-◌, ◌<◌, ◌≤�
 use Rattle.std.proofs.lemmas.Bool.{cases_lt}
 use Rattle.std.proofs.lemmas.List.{drop-append-le, drop-map, get_or_append_left, get_or_default, get_or_past, get_or_push, length-append, length-drop, length_push, take-append-le, take-map, take_all}
 use Rattle.std.proofs.Math.Seq.{drop-append_seam}
-use Rattle.tw_instance.specs.Sparse.{AreCut, IsCut, cut}
+use Rattle.tw_instance.specs.Sparse.{AreRowsOf, IsRowWithin, cut}
 
 -- ---- made row by row
 
-pub no_cuts : {X : Type 0} (F : ℕ → List X) (starts : List ℕ) (xs : List X) → starts ≡ 0 ∷ [] → xs ≡ [] → AreCut F 0 starts xs
+pub no_cuts : {X : Type 0} (F : ℕ → List X) (starts : List ℕ) (xs : List X) → starts ≡ 0 ∷ [] → xs ≡ [] → AreRowsOf F 0 starts xs
 no_cuts F starts xs one none = record {
   long = ap length one;
   end = ap (λ ss. get_or ss 0 0) one ∙ ap length (sym none);
@@ -16,7 +16,7 @@ no_cuts F starts xs one none = record {
 }
 
 -- a row that stands already stays
-cut_kept : {X : Type 0} (starts : List ℕ) (r n : ℕ) (xs ys : List X) → r + 1 < length starts → IsCut starts r (length xs) → cut (starts ++ n ∷ []) r (xs ++ ys) ≡ cut starts r xs
+cut_kept : {X : Type 0} (starts : List ℕ) (r n : ℕ) (xs ys : List X) → r + 1 < length starts → IsRowWithin starts r (length xs) → cut (starts ++ n ∷ []) r (xs ++ ys) ≡ cut starts r xs
 cut_kept starts r n xs ys there within =
     let low = get_or_append_left starts (n ∷ []) 0 r (omega arith) in
     let high = get_or_append_left starts (n ∷ []) 0 (r + 1) there in
@@ -26,8 +26,8 @@ cut_kept starts r n xs ys there within =
     let in' : m ≤ length xs = within.within in
     rw (low, high) (ap (take (m - s)) (drop-append-le s xs ys (omega arith)) ∙ take-append-le (m - s) (drop s xs) ys (let l = length-drop s xs in omega arith))
 
-pub cut_push : {X : Type 0} (F : ℕ → List X) (k n : ℕ) (starts : List ℕ) (xs row : List X) → AreCut F k starts xs → row ≡ F k → n ≡ length (xs ++ row)
-    → AreCut F (k + 1) (starts ++ n ∷ []) (xs ++ row)
+pub cut_push : {X : Type 0} (F : ℕ → List X) (k n : ℕ) (starts : List ℕ) (xs row : List X) → AreRowsOf F k starts xs → row ≡ F k → n ≡ length (xs ++ row)
+    → AreRowsOf F (k + 1) (starts ++ n ∷ []) (xs ++ row)
 cut_push F k n starts xs row so is count =
     let more = starts ++ n ∷ [] in
     let longer : length more ≡ k + 1 + 1 = (let l = length_push starts n in let m = so.long in omega arith) in

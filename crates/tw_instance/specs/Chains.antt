@@ -3,7 +3,7 @@ use Rattle.std.specs.Prelude.{ℕ, ◌≡◌, ◌==◌, ◌<◌, ◌≤◌, cond
 use Rattle.std.specs.List.{All}
 use Rattle.tw_event.specs.declared.event.PathNo.{PathNo}
 use Rattle.tw_model.specs.Net.{Net, IsPath, path, paths}
-use Rattle.tw_instance.specs.Sparse.{AreCut}
+use Rattle.tw_instance.specs.Sparse.{AreRowsOf}
 
 -- the first node of a path, and 0 of the empty path
 abbrev pub first_node : Net → PathNo → ℕ
@@ -47,5 +47,5 @@ row_of xs r = map (λ k. record { 0 = k }) (places_of xs r (length xs))
 
 -- the rows of the first numbers, so many, stand behind one another, and hold paths alone
 pub record AreRows (xs : List ℕ) (count : ℕ) (starts : List ℕ) (numbers : List PathNo) : Type 0 where
-  pub rows : AreCut (row_of xs) count starts numbers
+  pub rows : AreRowsOf (row_of xs) count starts numbers
   pub few : All (λ q. q.0 < length xs) numbers

@@ -5,7 +5,7 @@ use Rattle.tw_event.specs.declared.event.PathNo.{PathNo}
 use Rattle.tw_model.specs.Net.{Net, IsPath, is_own, path, paths, paths_of}
 use Rattle.tw_instance.specs.Chains.{Extends, first_node}
 use Rattle.tw_instance.specs.Firsts.{AreFirsts}
-use Rattle.tw_instance.specs.Sparse.{IsCut, cut}
+use Rattle.tw_instance.specs.Sparse.{IsRowWithin, cut}
 use Rattle.tw_instance.specs.declared.extensions.Extension.{Extension}
 use Rattle.tw_instance.specs.declared.extensions.Extensions.{Extensions}
 
@@ -33,7 +33,7 @@ IsExtendedAt net v p k = (q : PathNo) × (slice_get (paths_of net v) k ≡ Some 
 -- row r of the table is there, and within it
 pub record HasRow (t : Extensions) (r : ℕ) : Type 0 where
   pub there : r + 1 < length t.starts.items
-  pub cut : IsCut t.starts.items r (length t.numbers.items)
+  pub cut : IsRowWithin t.starts.items r (length t.numbers.items)
   pub alike : length t.extensions.items ≡ length t.numbers.items
   pub firsts : AreFirsts t.starts.items t.extensions.items t.firsts.items
 
@@ -41,7 +41,7 @@ pub record HasRow (t : Extensions) (r : ℕ) : Type 0 where
 -- and of each row the first extension is known
 pub record HasExtensions (net : Net) (t : Extensions) : Type 0 where
   pub long : length t.starts.items ≡ length (paths net) + 1
-  pub cuts : (p : PathNo) → IsPath net p → IsCut t.starts.items p.0 (length t.numbers.items)
+  pub cuts : (p : PathNo) → IsPath net p → IsRowWithin t.starts.items p.0 (length t.numbers.items)
   pub nodes : nodes_in t.extensions.items ≡ map (first_node net) t.numbers.items
   pub places : ArePlacesOf net t.numbers.items (places_in t.extensions.items)
   pub firsts : AreFirsts t.starts.items t.extensions.items t.firsts.items

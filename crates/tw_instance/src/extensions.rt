@@ -158,7 +158,7 @@ fn extensions_of(
     let mut extensions = Vec::with_capacity(alloc, numbers.len())?;
     for number in numbers {
         let node = first_node(instance.path(*number));
-        let place = instance.kept_place(*number);
+        let place = instance.stored_place(*number);
         extensions.push(Extension { node, place })?;
     }
     Ok(extensions)

@@ -8,7 +8,7 @@ ghost use Rattle.tw_model.specs.Rules.{IsNet};
 ghost use Rattle.tw_model.specs.State.{has_peer, slot as slot_of};
 ghost use Rattle.tw_instance.specs.Guesses.{AreGuesses};
 ghost use Rattle.tw_instance.specs.Hops.{peers_of};
-ghost use Rattle.tw_instance.specs.Sparse.{AreCut, IsCut, cut};
+ghost use Rattle.tw_instance.specs.Sparse.{AreRowsOf, IsRowWithin, cut};
 
 use crate::instance::Instance;
 use std::alloc::{AllocError, Global};
@@ -36,7 +36,7 @@ pub struct Peers {
     neighbours: Vec<u32>,
     /// Of each router, by the remainder of a neighbour's number, the neighbour that is looked for first.
     guesses: Vec<[Guess; GUESSES]>,
-    ghost cuts: { (r : ℕ) → r + 1 < length starts.items → IsCut starts.items r (length neighbours.items) },
+    ghost cuts: { (r : ℕ) → r + 1 < length starts.items → IsRowWithin starts.items r (length neighbours.items) },
     ghost guessed: { length starts.items ≡ length guesses.items + 1 },
 }
 
@@ -85,7 +85,7 @@ impl Peers {
 
 /// Where the row of each router begins, and the neighbours, row by row.
 fn rows_of(alloc: Global, instance: &Instance) -> Result<(Vec<u32>, Vec<u32>), AllocError>
-    ensures rows { IfOk result (λ rows. AreCut (peers_of instance.now) instance.now.nodes rows.0.items rows.1.items) }
+    ensures rows { IfOk result (λ rows. AreRowsOf (peers_of instance.now) instance.now.nodes rows.0.items rows.1.items) }
     ensures net { IsNet instance.now }
 {
     let mut starts = Vec::with_capacity(alloc, instance.nodes() as usize + 1)?;

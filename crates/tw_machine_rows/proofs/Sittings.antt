@@ -4,10 +4,10 @@ use Rattle.std.proofs.Common.{◌≡◌, ℕ, ◌<◌, ◌≤◌, ◌==◌, ◌&
 use Rattle.std.specs.List.{AllByRecursion}
 use Rattle.tw_core.specs.Machine.{Core}
 use Rattle.tw_event.specs.declared.event.Event.{Event}
-use Rattle.tw_exchange.specs.Board.{Board, IsBoard, handed, opening, visited}
-use Rattle.tw_machine_rows.specs.Sitting.{AreBeginning, IsReady}
+use Rattle.tw_exchange.specs.Board.{Board, IsBoard, handed, new_board, visited}
+use Rattle.tw_machine_rows.specs.Sitting.{AreBeginning, IsReadyToTake}
 use Rattle.tw_model.specs.Case.{Case, IsCase}
-use Rattle.tw_shard.specs.Shard.{IsOpeningShard, IsSameShare, Shard, core, handling, no_shard, opening_core, owns}
+use Rattle.tw_shard.specs.Shard.{IsOpeningShard, IsSameShare, Shard, handling, no_shard, opening_core, owns, shard_core}
 use Rattle.tw_sim.specs.declared.machine.Cancel.{Cancel}
 use Rattle.tw_sim.specs.declared.machine.Cancel.TheVariants.{Aggressive}
 use Rattle.tw_sim.specs.Owners.{owner}
@@ -22,11 +22,11 @@ use Rattle.tw_table.specs.Views.{IsMet}
 use Rattle.tw_workers.proofs.Moves.{kept_sent}
 use Rattle.tw_workers.proofs.Places.{kept_both, kept_handled, kept_same, work_kept}
 use Rattle.tw_workers.proofs.Visits.{IsVisited, told_of, visited_given}
-use Rattle.tw_workers.specs.Work.{IsAtWork, Kept}
+use Rattle.tw_workers.specs.Work.{IsAtWork, PreservesShare}
 
 -- a router of its own handles
-pub ready_handled : (t : Table) (s : Seat) (q : Share) (u : Shard) (r : ℕ) → IsReady t s q → IsSameShare q.shard u → handling 20 q.shard r ≡ Ok (core 20 u)
-    → IsReady t s (record q { shard = u })
+pub ready_handled : (t : Table) (s : Seat) (q : Share) (u : Shard) (r : ℕ) → IsReadyToTake t s q → IsSameShare q.shard u → handling 20 q.shard r ≡ Ok (shard_core 20 u)
+    → IsReadyToTake t s (record q { shard = u })
 ready_handled t s q u r is same done =
     let new : Share = record q { shard = u } in
     let kept = kept_handled 20 r q new is.work same done refl refl in
@@ -44,7 +44,7 @@ abbrev pub sent : Share → Share
 sent q = record { shard = record q.shard { outgoing = [] }; mail = q.mail; unsent = q.unsent ++ q.shard.outgoing }
 
 -- it has taken the exchange, deposited that, and has its mail
-pub may_give : (t : Table) (s : Seat) (h k : Held) (q v : Share) → IsReady t s q → share_of h ≡ share_at s → exchange_of h ≡ taken_by h → IsMet (share_at s ∷ []) (taken_by h)
+pub may_give : (t : Table) (s : Seat) (h k : Held) (q v : Share) → IsReadyToTake t s q → share_of h ≡ share_at s → exchange_of h ≡ taken_by h → IsMet (share_at s ∷ []) (taken_by h)
     → IsBoard (taken_by h) → (taken_by h).stop ≡ stop_at s → IsSameSeat h k → (exchange_of h).bound ≤ (exchange_of k).bound
     → exchange_of k ≡ visited (share_of h).shard.worker q.shard.outgoing (told_of q) (exchange_of h)
     → v.shard ≡ record q.shard { outgoing = []; bound = max q.shard.bound (exchange_of k).bound }
@@ -67,7 +67,7 @@ may_give t s h k q v is own fresh met board stop same rising now shard mail unse
     subst (λ b. MayBeGiven b (share_of k) y v) (sym same.taken) (subst (λ u. MayBeGiven x u y v) (sym (same.share ∙ own)) may)
 
 -- a shard that begins, with an empty hand
-pub new_share : (case : Case) (k : ℕ) (cancel : Cancel) (s : Shard) (h : Hand) → ((stop : ℕ) → core stop s ≡ opening_core case k 2 cancel stop) → s.case ≡ case → s.worker ≡ k
+pub new_share : (case : Case) (k : ℕ) (cancel : Cancel) (s : Shard) (h : Hand) → ((stop : ℕ) → shard_core stop s ≡ opening_core case k 2 cancel stop) → s.case ≡ case → s.worker ≡ k
     → ((r : ℕ) → owns s r ≡ (nat_lt r case.net.nodes && (owner 2 r == k))) → s.workers ≡ 2 → h.mail.items ≡ [] → h.next ≡ 0 → h.out.items ≡ [] → IsNew case k 2 (share s h)
 new_share case k cancel s h is same own routers many mail next out =
     let told : s.cancel ≡ cancel = ap (λ (C : Core Event). C.cancel) (is 0) in
@@ -107,12 +107,12 @@ begun case shards g h two each first second =
 -- a new exchange to stop 20, and the shares of its two workers as they begin
 pub record IsBeginning (case : Case) (x : Board) (shares : List Share) : Type 0 where
   pub is_case : IsCase case
-  pub board : x ≡ opening 2 0 20
+  pub board : x ≡ new_board 2 0 20
   pub count : length shares ≡ 2
   pub new : AreNew case 0 (length shares) shares
 
 -- it is such an exchange
-pub at_first : (case : Case) (x : Board) (shards : List Shard) (hands : List Hand) → IsCase case → x ≡ opening 2 0 20 → AreBeginning case shards hands → IsBeginning case x (shares_of shards hands)
+pub at_first : (case : Case) (x : Board) (shards : List Shard) (hands : List Hand) → IsCase case → x ≡ new_board 2 0 20 → AreBeginning case shards hands → IsBeginning case x (shares_of shards hands)
 at_first case x shards hands is board begin =
     let l = two_of shards begin.two_shards in
     let m = two_of hands begin.two_hands in
@@ -121,22 +121,22 @@ at_first case x shards hands is board begin =
 
 module _ (case : Case) (x : Board) (shares : List Share) (is : IsBeginning case x shares) where
   -- so they keep the rule, by this law
-  pub ruled_so : ((c : Case) (stop : ℕ) (ss : List Share) → IsCase c → 0 < length ss → AreNew c 0 (length ss) ss → IsRuled c (opening (length ss) 0 stop) ss) → IsRuled case x shares
+  pub ruled_so : ((c : Case) (stop : ℕ) (ss : List Share) → IsCase c → 0 < length ss → AreNew c 0 (length ss) ss → IsRuled c (new_board (length ss) 0 stop) ss) → IsRuled case x shares
   ruled_so law =
       let some : 0 < length shares = (let two = is.count in omega (arith, two)) in
-      subst (λ y. IsRuled case y shares) (ap (λ n. opening n 0 20) is.count ∙ sym is.board) (law case 20 shares is.is_case some is.new)
+      subst (λ y. IsRuled case y shares) (ap (λ n. new_board n 0 20) is.count ∙ sym is.board) (law case 20 shares is.is_case some is.new)
 
 -- a worker at a table that was opened with its share
-ready : (t : Table) (s : Seat) (q : Share) → IsSeatOf t s → stop_at s ≡ 20 → share_at s ≡ q → IsAtWork 20 q → q.mail ≡ [] → q.unsent ≡ [] → IsReady t s q
+ready : (t : Table) (s : Seat) (q : Share) → IsSeatOf t s → stop_at s ≡ 20 → share_at s ≡ q → IsAtWork 20 q → q.mail ≡ [] → q.unsent ≡ [] → IsReadyToTake t s q
 ready t s q seat stop own work mail unsent =
-    record { seat = seat; stop = stop; kept = subst (λ w. Kept 20 w q) (sym own) (kept_same 20 q work); work = work; mail = mail; unsent = unsent }
+    record { seat = seat; stop = stop; kept = subst (λ w. PreservesShare 20 w q) (sym own) (kept_same 20 q work); work = work; mail = mail; unsent = unsent }
 
 -- both workers are ready
 pub both_ready : (t : Table) (case : Case) (x : Board) (seats : List Seat) (shards : List Shard) (hands : List Hand) (a b : Seat) (s u : Shard) (g h : Hand)
     → IsBeginning case x (shares_of shards hands) → AllByRecursion (IsSeatOf t) seats → AllByRecursion (λ c. stop_at c ≡ x.stop) seats → map share_at seats ≡ shares_of shards hands
     → ((i : ℕ) (q : Share) → slice_get (shares_of shards hands) i ≡ Some q → IsAtWork x.stop q)
     → (others : List Seat) × (seats ≡ a ∷ b ∷ others) → shards ≡ s ∷ u ∷ [] → hands ≡ g ∷ h ∷ []
-    → IsReady t a (share s g) × IsReady t b (share u h)
+    → IsReadyToTake t a (share s g) × IsReadyToTake t b (share u h)
 both_ready t case x seats shards hands a b s u g h is of stops own work sits ss hs =
     let shares : shares_of shards hands ≡ share s g ∷ share u h ∷ [] = λ i. shares_of (ss i) (hs i) in
     let now : map share_at (a ∷ b ∷ sits.0) ≡ share s g ∷ share u h ∷ [] = sym (ap (map share_at) sits.1) ∙ (own ∙ shares) in
@@ -152,26 +152,26 @@ both_ready t case x seats shards hands a b s u g h is of stops own work sits ss 
 
 -- each worker's seat, for the shard and the hand at its place
 abbrev pub AreReady : Table → Seat → Seat → List Shard → List Hand → Type 0
-AreReady t a b shards hands = (s u : Shard) (g h : Hand) → shards ≡ s ∷ u ∷ [] → hands ≡ g ∷ h ∷ [] → IsReady t a (share s g) × IsReady t b (share u h)
+AreReady t a b shards hands = (s u : Shard) (g h : Hand) → shards ≡ s ∷ u ∷ [] → hands ≡ g ∷ h ∷ [] → IsReadyToTake t a (share s g) × IsReadyToTake t b (share u h)
 
 pub ready_first : (t : Table) (a b : Seat) (shards : List Shard) (hands : List Hand) (s : Shard) (g : Hand) → AreReady t a b shards hands → length shards ≡ 2 → length hands ≡ 2
-    → IsReady t a (share (slice_index_or shards 0 s) (slice_index_or hands 0 g))
+    → IsReadyToTake t a (share (slice_index_or shards 0 s) (slice_index_or hands 0 g))
 ready_first t a b shards hands s g are two pair =
     let l = two_of shards two in
     let m = two_of hands pair in
     let both = are l.0 l.1 m.0 m.1 l.2 m.2 in
-    subst (λ (ss : List Shard). IsReady t a (share (slice_index_or ss 0 s) (slice_index_or hands 0 g))) (sym l.2)
-    (subst (λ (hs : List Hand). IsReady t a (share l.0 (slice_index_or hs 0 g))) (sym m.2) both.0)
+    subst (λ (ss : List Shard). IsReadyToTake t a (share (slice_index_or ss 0 s) (slice_index_or hands 0 g))) (sym l.2)
+    (subst (λ (hs : List Hand). IsReadyToTake t a (share l.0 (slice_index_or hs 0 g))) (sym m.2) both.0)
 
 -- and the second's, where the first shard and the first hand have changed
 pub ready_second : (t : Table) (a b : Seat) (shards : List Shard) (hands : List Hand) (s new : Shard) (g other : Hand) → AreReady t a b shards hands → length shards ≡ 2 → length hands ≡ 2
-    → IsReady t b (share (slice_index_or (slice_set shards 0 new) 1 s) (slice_index_or (slice_set hands 0 other) 1 g))
+    → IsReadyToTake t b (share (slice_index_or (slice_set shards 0 new) 1 s) (slice_index_or (slice_set hands 0 other) 1 g))
 ready_second t a b shards hands s new g other are two pair =
     let l = two_of shards two in
     let m = two_of hands pair in
     let both = are l.0 l.1 m.0 m.1 l.2 m.2 in
-    subst (λ (ss : List Shard). IsReady t b (share (slice_index_or (slice_set ss 0 new) 1 s) (slice_index_or (slice_set hands 0 other) 1 g))) (sym l.2)
-    (subst (λ (hs : List Hand). IsReady t b (share l.1 (slice_index_or (slice_set hs 0 other) 1 g))) (sym m.2) both.1)
+    subst (λ (ss : List Shard). IsReadyToTake t b (share (slice_index_or (slice_set ss 0 new) 1 s) (slice_index_or (slice_set hands 0 other) 1 g))) (sym l.2)
+    (subst (λ (hs : List Hand). IsReadyToTake t b (share l.1 (slice_index_or (slice_set hs 0 other) 1 g))) (sym m.2) both.1)
 
 -- both seats of a table, where they are the first two of a list
 pub both_seated : (table : Table) (seats : List Seat) (shards : List Shard) (hands : List Hand) (o : Option (Table × Seat × Seat)) → IfSome o (λ r. r.0 ≡ table)

@@ -8,13 +8,13 @@ use Rattle.tw_table.specs.Seats.{IsSeatOf, share_at, stop_at}
 use Rattle.tw_shard.specs.Shard.{Shard}
 use Rattle.tw_table.specs.declared.hand.Hand.{Hand}
 use Rattle.tw_table.specs.Shares.{Share, shares_of}
-use Rattle.tw_workers.specs.Work.{IsAtWork, Kept}
+use Rattle.tw_workers.specs.Work.{IsAtWork, PreservesShare}
 
 -- the worker with this seat may take the exchange, to stop 20: it has kept its share, and nothing is in its hand
-pub record IsReady (t : Table) (s : Seat) (q : Share) : Type 0 where
+pub record IsReadyToTake (t : Table) (s : Seat) (q : Share) : Type 0 where
   pub seat : IsSeatOf t s
   pub stop : stop_at s ≡ 20
-  pub kept : Kept 20 (share_at s) q
+  pub kept : PreservesShare 20 (share_at s) q
   pub work : IsAtWork 20 q
   pub mail : q.mail ≡ []
   pub unsent : q.unsent ≡ []

@@ -57,7 +57,7 @@ fn hand_over<'a>(
     ensures from { from.new.case ≡ from.old.case }
     ensures to { to.new.case ≡ to.old.case }
 {
-    if to.owns(router) || from.keeps() != to.keeps() || from.cancel() != to.cancel() {
+    if to.owns(router) || from.retains() != to.retains() || from.cancel() != to.cancel() {
         return None;
     }
     Some(from.hand_over(router, to))

@@ -58,7 +58,7 @@ fn receive_welcome(shard: &mut Shard<'_>, message: &Signed<Event>) -> bool {
 
 /// Commits and keeps, once more where memory was refused.
 fn commit(shard: &mut Shard<'_>, router: u32) -> Result<(), OrMemory<Refusal>>
-    requires { shard.old.keeps ≡ true }
+    requires { shard.old.retains ≡ true }
 {
     match shard.commit(router) {
         Err(OrMemory::Memory) => shard.commit(router),
@@ -100,7 +100,7 @@ fn router_1_is_heard(shard: &mut Shard<'_>) -> bool {
 /// What is committed is not undone.
 fn the_offer_is_committed(shard: &mut Shard<'_>) -> bool {
     shard.raise_bound(3);
-    shard.keeps()
+    shard.retains()
         && commit(shard, 2) == Ok(())
         && undo(shard, 2) == Err(OrMemory::Fault(Refusal::Committed))
 }
@@ -191,7 +191,7 @@ fn is_rolled_back_and_goes_on(shard: &mut Shard<'_>) -> bool {
 fn has_handled_alone(shard: &Shard<'_>, path: u32, event: Event) -> bool {
     shard.owns(2)
         && !shard.owns(1)
-        && shard.keeps()
+        && shard.retains()
         && shard.router(2).rib() == PathNo(path)
         && shard.handled(2, 0) == Some(event)
         && shard.handled(2, 1) == None
@@ -200,7 +200,7 @@ fn has_handled_alone(shard: &Shard<'_>, path: u32, event: Event) -> bool {
 /// Whether router 2 has committed and handled so many events, and is done to this time, which is the bound.
 fn stands_at(shard: &Shard<'_>, committed: usize, ahead: usize, bound: u64) -> bool {
     shard.owns(2)
-        && shard.keeps()
+        && shard.retains()
         && shard.committed(2) == committed
         && shard.ahead(2) == ahead
         && shard.done(2) == bound

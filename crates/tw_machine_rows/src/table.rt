@@ -12,7 +12,7 @@ ghost use Rattle.tw_table.specs.declared.seat.Seat.{Seat as ASeat};
 ghost use Rattle.tw_table.specs.declared.table.Table.{Table as ATable};
 ghost use Rattle.tw_table.specs.Seats.{IsSameSeat, IsSeatOf, exchange_of, owners_on, share_of, workers_at};
 ghost use Rattle.tw_table.specs.Shares.{share};
-ghost use Rattle.tw_machine_rows.specs.Sitting.{AreBeginning, IsReady};
+ghost use Rattle.tw_machine_rows.specs.Sitting.{AreBeginning, IsReadyToTake};
 
 use crate::messages::offers_of_origin;
 use std::alloc::{AllocError, Global};
@@ -68,7 +68,7 @@ fn sit_down<R: Wait>(
 ) -> Option<(Table, Seat, Seat)>
     requires { AreBeginning case.now shards.now hands.now }
     ensures { IfSome result (λ r. (s u : AShard) (g h : AHand) → shards.now ≡ s ∷ u ∷ [] → hands.now ≡ g ∷ h ∷ []
-        → IsReady r.0 r.1 (share s g) × IsReady r.0 r.2 (share u h)) }
+        → IsReadyToTake r.0 r.1 (share s g) × IsReadyToTake r.0 r.2 (share u h)) }
 {
     // What a case keeps is told by a read of it.
     let _ = case.instance();
@@ -93,7 +93,7 @@ fn sit_down_at_last<R: Wait>(
 ) -> Option<(Table, Seat, Seat)>
     requires { AreBeginning case.now shards.now hands.now }
     ensures { IfSome result (λ r. (s u : AShard) (g h : AHand) → shards.now ≡ s ∷ u ∷ [] → hands.now ≡ g ∷ h ∷ []
-        → IsReady r.0 r.1 (share s g) × IsReady r.0 r.2 (share u h)) }
+        → IsReadyToTake r.0 r.1 (share s g) × IsReadyToTake r.0 r.2 (share u h)) }
 {
     match sit_down(rt, alloc, case, shards, hands) {
         None => sit_down(rt, alloc, case, shards, hands),
@@ -103,7 +103,7 @@ fn sit_down_at_last<R: Wait>(
 
 /// A router of a worker handles its first event, once more where memory was refused.
 fn handle(shard: &mut Shard<'_>, router: u32) -> bool
-    ensures { OnTrue result ((t : ATable) (s : ASeat) (h : AHand) → IsReady t s (share shard.old h) → IsReady t s (share shard.new h)) }
+    ensures { OnTrue result ((t : ATable) (s : ASeat) (h : AHand) → IsReadyToTake t s (share shard.old h) → IsReadyToTake t s (share shard.new h)) }
 {
     match shard.handle_next(router, 20) {
         Ok(()) => return true,
@@ -142,7 +142,7 @@ fn meet<R: Wait>(
     shard: &mut Shard<'_>,
     hand: &mut Hand,
 ) -> Option<Seat>
-    requires { IsReady table.now seat (share shard.old hand.old) }
+    requires { IsReadyToTake table.now seat (share shard.old hand.old) }
     ensures { IfSome result (λ s. IsSeatOf table.now s) }
 {
     let mut held = table.take(rt, seat);
@@ -201,7 +201,7 @@ fn meet_dealt<R: Wait>(
     shard: &mut Shard<'_>,
     hand: &mut Hand,
 ) -> Option<Seat>
-    requires { IsReady table.now seat (share shard.old hand.old) }
+    requires { IsReadyToTake table.now seat (share shard.old hand.old) }
     ensures { IfSome result (λ s. IsSeatOf table.now s) }
 {
     let out = shard.take_out();
@@ -236,7 +236,7 @@ fn meet_first<R: Wait>(
     shard: &mut Shard<'_>,
     hand: &mut Hand,
 ) -> Option<Seat>
-    requires { IsReady table.now seat (share shard.old hand.old) }
+    requires { IsReadyToTake table.now seat (share shard.old hand.old) }
     ensures { IfSome result (λ s. IsSeatOf table.now s) }
 {
     let [for_1, for_2] = offers_of_origin();
@@ -259,7 +259,7 @@ fn meet_second<R: Wait>(
     shard: &mut Shard<'_>,
     hand: &mut Hand,
 ) -> Option<Seat>
-    requires { IsReady table.now seat (share shard.old hand.old) }
+    requires { IsReadyToTake table.now seat (share shard.old hand.old) }
     ensures { IfSome result (λ s. IsSeatOf table.now s) }
 {
     let [for_1, _] = offers_of_origin();

@@ -7,7 +7,6 @@ use Rattle.std.specs.Option.{option_map_or}
 use Rattle.std.specs.Str.{bytes_eq, chars}
 use Rattle.std.proofs.lemmas.List.{append-nil}
 use Rattle.std.proofs.lemmas.Bool.{eqb-true}
-use Rattle.clap.proofs.ValueTestLemmas.{accepts-Accepts}
 use Rattle.clap.specs.Facts.{explicit_source, parser_of_value, unwrap_or_range}
 use Rattle.clap.specs.Faults.{action_fault, bundle_fault, bundle_step_fault, check_fault, defaults_fault, level_fault, flag_word_fault, flags_fault, long_fault}
 use Rattle.clap.specs.Faults.{option_fault, other_fault, positional_fault, react_fault, settle_fault, short_fault, step_fault, stray_fault, turn_fault}
@@ -16,9 +15,7 @@ use Rattle.clap.specs.Kinds.{Kinds, or_else, range_kinds, value_kinds}
 use Rattle.clap.specs.Lexer.{long_of, short_of}
 use Rattle.clap.specs.Simple.{Shape}
 use Rattle.clap.specs.Takes.{is_given}
-use Rattle.clap.specs.ValueTests.{accepts}
-use Rattle.clap.specs.Values.{Accepts, read_as, refused_kind}
-use Rattle.clap.specs.declared.builder.value_parser.ValueParser.{ValueParser}
+use Rattle.clap.specs.Values.{read_as}
 use Rattle.clap.specs.Walk.{nothing_held, one_of, row_text, rows_after, walk, walk_from, Held, Names, Outcome, Row, Rule, Step, Text, Waiting, Walk, done}
 use Rattle.clap.specs.Walk.{flag_met, bundle_step, option, option_word, plain, positional, refused, short_or_plain, used_by_id, waits, action_of, after_flag}
 use Rattle.clap.specs.Walk.{arg_by_id, arg_by_index, arg_by_long, arg_by_short, at_row, attached_value, bundle, bundle_met, has_row, idle, long_met}
@@ -32,23 +29,7 @@ use Rattle.clap.specs.declared.builder.action.ArgAction.TheVariants.{Set, SetTru
 use Rattle.clap.specs.declared.error.kind.ErrorKind.TheVariants as kind
 use Rattle.clap.specs.declared.parser.matches.ValueSource.{ValueSource}
 use Rattle.clap.specs.declared.parser.matches.ValueSource.TheVariants.{CommandLine, DefaultValue}
-
--- two steps without a fault
-pub none_of_both : (a b : Kinds) → or_else a b ≡ [] → (a ≡ []) × (b ≡ [])
-none_of_both [] b h = (refl, h)
-none_of_both (k ∷ ks) b h = cc
-
--- the first element that passes
-pub found_has : {X : Type 0} (P : X → Type 0) (p : X → Bool) (xs : List X) (x : X) → AllByRecursion P xs → find p xs ≡ Some x
-    → P x × (p x ≡ true)
-found_has P p [] x all is = cc
-found_has P p (y ∷ ys) x all is = go (p y) refl is (found_has P p ys x all.1)
-  where
-    go : (b : Bool) → p y ≡ b → cond b (Some y) (find p ys) ≡ Some x → (find p ys ≡ Some x → P x × (p x ≡ true)) → P x × (p x ≡ true)
-    go true e h rest =
-        let same : y ≡ x = cc in
-        subst (λ z. P z × (p z ≡ true)) same (all.0, e)
-    go false e h rest = rest h
+use Rattle.tw_options.proofs.Passing.{found_has, none_of_both}
 
 -- ---- rows
 
@@ -393,10 +374,3 @@ taken_text t rows text all given = go (find (λ r. bytes_eq r.id t.id) rows) (λ
         let same : read_as (reading_by t) one.0 ≡ text =
         let same : Some (read_as (reading_by t) one.0) ≡ Some text = sym (text_in r one.0 (reading_by t) one.1 one.3) ∙ g in cc in
         (one.0, same, one.2)
-
-pub accepted : (ignore_case : Bool) (p : ValueParser) (v : Text) → value_kinds ignore_case p v ≡ [] → Accepts ignore_case p v
-accepted i p v h = accepts-Accepts i p v (go (accepts i p v) h)
-  where
-    go : (b : Bool) → cond b [] (refused_kind p ∷ []) ≡ [] → b ≡ true
-    go true h = refl
-    go false h = cc

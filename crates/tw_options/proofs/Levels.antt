@@ -1,24 +1,28 @@
 -- At words that the parser takes, the matches have what each subcommand of a program requires.
-use Rattle.std.proofs.Common.{◌≡◌, ◌∙◌, ◌&&◌, ◌||◌, sym, subst, refl, true, false, not, ℕ, zero, suc, Bool, codes, Option, Some, None, is_some}
+use Rattle.std.proofs.Common.{◌≡◌, ◌∙◌, ◌&&◌, ◌||◌, sym, subst, refl, true, false, not, ℕ, zero, suc, Bool, codes, cond, Option, Some, None, is_some}
 use Rattle.std.proofs.Common.{option_map, true≢false, List, [], ◌∷◌}
 use Rattle.std.specs.List.{AllByRecursion, find, list_all, list_any}
 use Rattle.std.specs.Option.{option_map_or}
 use Rattle.std.specs.Str.{bytes_eq}
 use Rattle.std.proofs.lemmas.Slice.Eq.{bytes_eq-Decides}
+use Rattle.clap.proofs.ValueTestLemmas.{accepts-Accepts}
 use Rattle.clap.specs.Facts.{parser_of_value}
 use Rattle.clap.specs.Faults.{check_fault, defaults_fault, entered_fault, level_fault, settle_fault, walk_fault}
-use Rattle.clap.specs.Kinds.{check_kinds}
+use Rattle.clap.specs.Kinds.{check_kinds, value_kinds}
 use Rattle.clap.specs.Simple.{App, Shape, argument_words, built, built_leaf, entered, filled, help_shape, inherited, is_simple, label_of, marked_built, names_of, rows_at, with_leaf_noted}
 use Rattle.clap.specs.Takes.{is_given}
-use Rattle.clap.specs.Values.{IsUnsignedIn}
+use Rattle.clap.specs.ValueTests.{accepts}
+use Rattle.clap.specs.Values.{Accepts, IsUnsignedIn, refused_kind}
 use Rattle.clap.specs.Walk.{Row, Rule, Text, Walk, action_of, answers_to, finished, nothing_held, rows_after, settled, walk, walk_from}
 use Rattle.clap.specs.Words.{HasMatchesOf, fault_of, subcommand_of, subcommand_rows_of}
 use Rattle.clap.specs.declared.builder.action.ArgAction.{ArgAction}
 use Rattle.clap.specs.declared.builder.action.ArgAction.TheVariants.{Set, SetTrue, Help}
+use Rattle.clap.specs.declared.builder.value_parser.ValueParser.{ValueParser}
 use Rattle.clap.specs.declared.parser.matches.ArgMatches.{ArgMatches}
 use Rattle.tw_options.specs.App.{number_rule}
 use Rattle.tw_options.specs.Fit.{HasNumber, HasNumberIfGiven, IsFound}
-use Rattle.tw_options.proofs.Kept.{Fits, GoodRows, IsPlain, IsPlainOption, accepted, found_has, given_good, good_level, none_of_both, taken_text}
+use Rattle.tw_options.proofs.Kept.{Fits, GoodRows, IsPlain, IsPlainOption, given_good, good_level, taken_text}
+use Rattle.tw_options.proofs.Passing.{found_has, none_of_both}
 use Rattle.tw_options.proofs.Stop.{IsNoHelp, no_help}
 
 -- ---- one level of the words
@@ -94,6 +98,14 @@ given_at rows t required (suc k) (a ∷ xs) at none = given_at rows t required k
     rest : (a b : Bool) → (a || b) ≡ false → b ≡ false
     rest true b h = cc
     rest false b h = h
+
+-- a value without a fault is taken
+accepted : (ignore_case : Bool) (p : ValueParser) (v : Text) → value_kinds ignore_case p v ≡ [] → Accepts ignore_case p v
+accepted i p v h = accepts-Accepts i p v (go (accepts i p v) h)
+  where
+    go : (b : Bool) → cond b [] (refused_kind p ∷ []) ≡ [] → b ≡ true
+    go true h = refl
+    go false h = cc
 
 -- the rows of a subcommand whose words have no fault
 module _ (s : Shape) (again : s.args_override_self ≡ false) (words : List Text) (f : level_fault s [] nothing_held words false [] ≡ []) where

@@ -10,7 +10,7 @@ use Rattle.clap.specs.Walk.{Held, Names, Outcome, Rule, Step, Text, Waiting, Wal
 use Rattle.clap.specs.Walk.{long_met, long_or_other, next, option, plain, plain_word, positional, refused, short_or_plain, subcommand, subcommand_met}
 use Rattle.clap.specs.Walk.{subcommand_or_other, to_positional, trailing, value, waits, walked, walked_from, word_met}
 use Rattle.clap.specs.declared.error.kind.ErrorKind.TheVariants as kind
-use Rattle.tw_options.proofs.Kept.{none_of_both}
+use Rattle.tw_options.proofs.Passing.{none_of_both}
 
 -- the walk did not stop at `help`
 abbrev pub IsNoHelp : Option (Text × List Text) → Type 0

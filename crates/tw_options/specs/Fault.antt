@@ -8,20 +8,20 @@ use Rattle.tw_options.specs.declared.fault.CommandLineFault.{CommandLineFault}
 use Rattle.tw_options.specs.declared.fault.CommandLineFault.TheVariants.{Help, Bad, Memory}
 
 -- an error of this kind answers a request: its text is what was asked for
-abbrev pub Answers : ErrorKind → Type 0
-Answers k = (k ≡ kind.DisplayHelp) ⊎ (k ≡ kind.DisplayVersion)
+abbrev pub AnswersRequest : ErrorKind → Type 0
+AnswersRequest k = (k ≡ kind.DisplayHelp) ⊎ (k ≡ kind.DisplayVersion)
 
 -- the parser's error, as a fault of the command line
-abbrev pub Tells : Error → CommandLineFault → Type 0
-Tells error (Help e) = (e ≡ error) × Answers (kind_of error)
-Tells error (Bad e) = (e ≡ error) × (Answers (kind_of error) → ⊥) × (kind_of error ≡ kind.OutOfMemory → ⊥)
-Tells error Memory = kind_of error ≡ kind.OutOfMemory
+abbrev pub IsToldAs : Error → CommandLineFault → Type 0
+IsToldAs error (Help e) = (e ≡ error) × AnswersRequest (kind_of error)
+IsToldAs error (Bad e) = (e ≡ error) × (AnswersRequest (kind_of error) → ⊥) × (kind_of error ≡ kind.OutOfMemory → ⊥)
+IsToldAs error Memory = kind_of error ≡ kind.OutOfMemory
 
 -- the fault is one of the kinds that the parser has for the words
 abbrev pub Explains : Kinds → CommandLineFault → Type 0
-Explains kinds (Help e) = Answers (kind_of e) × IsAmong (kind_of e) kinds
+Explains kinds (Help e) = AnswersRequest (kind_of e) × IsAmong (kind_of e) kinds
 Explains kinds (Bad e) =
-    (Answers (kind_of e) → ⊥) × (kind_of e ≡ kind.OutOfMemory → ⊥) × IsAmong (kind_of e) kinds
+    (AnswersRequest (kind_of e) → ⊥) × (kind_of e ≡ kind.OutOfMemory → ⊥) × IsAmong (kind_of e) kinds
 Explains kinds Memory = Unit {0}
 
 -- the words are the program's name, and then `--version` or `-V`

@@ -1,7 +1,7 @@
 //! Why a command line is not accepted.
 
 ghost use Rattle.std.specs.Prelude.{◌≡◌};
-ghost use Rattle.tw_options.specs.Fault.{Tells};
+ghost use Rattle.tw_options.specs.Fault.{IsToldAs};
 ghost use Rattle.tw_options.specs.declared.fault.CommandLineFault.TheVariants.{Memory};
 
 use clap::error::ErrorKind;
@@ -31,7 +31,7 @@ impl From<AllocError> for CommandLineFault {
 }
 
 impl From<clap::Error> for CommandLineFault {
-    ghost from_gives = { Tells };
+    ghost from_gives = { IsToldAs };
 
     fn from(error: clap::Error) -> CommandLineFault {
         match error.kind() {

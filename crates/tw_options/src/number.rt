@@ -47,12 +47,10 @@ pub(crate) const STOP: NumberOption = NumberOption {
 
 pub(crate) const EVERY: NumberOption = NumberOption {
     id: "every",
-    value_name: "TICKS",
     is_required: false,
-    least: 1,
-    most: LATEST,
     help: help::EVERY,
     long_help: help::EVERY_LONG,
+    ..STOP
 };
 
 pub(crate) const ROUTER: NumberOption = NumberOption {
@@ -68,11 +66,10 @@ pub(crate) const ROUTER: NumberOption = NumberOption {
 pub(crate) const KEEP: NumberOption = NumberOption {
     id: "keep",
     value_name: "COUNT",
-    is_required: true,
     least: 0,
-    most: LATEST,
     help: help::KEEP,
     long_help: help::KEEP,
+    ..STOP
 };
 
 pub(crate) const WORKERS: NumberOption = NumberOption {
@@ -93,12 +90,10 @@ pub(crate) const THREADS: NumberOption = NumberOption {
 
 pub(crate) const BATCH: NumberOption = NumberOption {
     id: "batch",
-    value_name: "COUNT",
-    is_required: false,
-    least: 1,
     most: MOST_BATCH as u64,
     help: help::BATCH,
     long_help: help::BATCH,
+    ..WORKERS
 };
 
 impl NumberOption {

@@ -20,17 +20,17 @@ const SHORT_LAP: u64 = 250;
 const ENOUGH: u64 = 20_000;
 
 /// Where threads that have nothing to do take longer to start and join, other work takes the processors, and workers wait
-/// for one another far longer than they work. On a quiet machine that takes a tenth of this. A stretch of the trial is
-/// given so much more than one thread takes.
+/// for one another far longer than they work. On a quiet machine that takes a tenth of this. A trial is given so much
+/// more than one thread takes, up to its last stretch.
 const LONG_WAIT: u64 = 3_000;
 
 /// Several are first tried on what takes one thread so long: some ten times what it takes to start a thread, and long
 /// enough for a clock to tell a twentieth.
 const TRIAL: u64 = 3_000;
 
-/// The first stretch of the trial is what takes one thread so long. Beside other work a stretch takes up to forty times
-/// as long, which is told by then.
-const FIRST_STRETCH: u64 = 500;
+/// The first stretch of the trial is what takes one thread so long, and each further one twice that. Beside other work
+/// workers may wait for milliseconds at each tick, so the first has few of them.
+const FIRST_STRETCH: u64 = 100;
 
 /// They go on where the trial took a twentieth less than one thread: less is within what a clock tells of it.
 const TWENTIETHS: u64 = 19;
@@ -225,7 +225,7 @@ impl Course {
         };
         Course {
             lost: if self.by_one < TRIAL {
-                later.loss_of_trial(micros, by_one)
+                later.loss_of_trial()
             } else {
                 more_than(micros, by_one)
             },
@@ -233,12 +233,12 @@ impl Course {
         }
     }
 
-    /// What is lost by the trial so far, whose last stretch took so long, where one thread would take so long: in its
-    /// middle a stretch may take longer, but not as beside other work; at its end a twentieth is to be won, and starting
-    /// the threads does not count.
-    fn loss_of_trial(self, micros: u64, by_one: u64) -> Option<u64> {
+    /// What is lost by the trial so far: in its middle it may take longer than one thread, but not as beside other work;
+    /// at its end a twentieth is to be won, and starting the threads does not count. A clock that stood still while one
+    /// thread went on tells nothing.
+    fn loss_of_trial(self) -> Option<u64> {
         let is_lost = if self.by_one < TRIAL {
-            by_one == 0 || micros > by_one.saturating_add(LONG_WAIT)
+            self.alone.micros == 0 || self.micros > self.by_one.saturating_add(LONG_WAIT)
         } else {
             let starts = self.starting.saturating_mul(self.stretches);
             let work = self.micros.saturating_sub(starts);
@@ -257,12 +257,12 @@ impl Course {
         self.lost.is_some() || self.micros >= long.saturating_add(LONG_BY_ALL)
     }
 
-    /// One thread goes on from here.
-    pub fn go_on_alone(self) -> Alone
+    /// One thread goes on from here, which took so long to begin.
+    pub fn go_on_alone(self, closing: u64) -> Alone
         ensures { result.ticks ≡ self.ticks }
     {
         let lost = match self.lost {
-            Some(micros) => micros.saturating_add(self.opening),
+            Some(micros) => micros.saturating_add(self.opening).saturating_add(closing),
             None => 0,
         };
         Alone {

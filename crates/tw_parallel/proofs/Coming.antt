@@ -10,9 +10,9 @@ use Rattle.tw_event.specs.declared.event.Event.{Event}
 use Rattle.tw_model.specs.Case.{simulation}
 use Rattle.tw_model.specs.State.{Router, State}
 use Rattle.tw_parallel.specs.Moving.{fit}
-use Rattle.tw_parallel.specs.Vacancy.{AreVacant, IsClosed, Start, no_vacant, owner_in, vacant_from}
+use Rattle.tw_parallel.specs.Vacancy.{AreVacant, IsFilled, Start, no_vacant, owner_in, vacant_from}
 use Rattle.tw_seq.specs.Run.{Run, complete_run, router_after, routers_after}
-use Rattle.tw_seq.specs.Traced.{kept, lists_of, logs_after}
+use Rattle.tw_seq.specs.Traced.{lists_of, logs_after, retained}
 use Rattle.tw_shard.specs.Cut.{IsShardAt}
 use Rattle.tw_shard.specs.Shard.{Shard, no_shard}
 use Rattle.tw_shard.proofs.Walks.{one_more}
@@ -84,7 +84,7 @@ module _ (s : Start) where
       let none : s.case.net.nodes - s.case.net.nodes ≡ 0 = omega arith in
       ap (λ (v : Vacant). v.missing) (are.each w within) ∙ ap (λ j. filter (λ r. owner_in s r == w) (range_with_len s.case.net.nodes j)) none
 
--- ---- the routers of a run, and their events where they are kept
+-- ---- the routers of a run, and their events where they are retained
 
 -- the run that is taken over
 abbrev run : Start → Run
@@ -96,17 +96,17 @@ pub record AreComing (s : Start) (from : ℕ) (routers : List Router) (logs : Op
   pub routers_are : routers ≡ map (router_after s.case (run s).events) (range_with_len from (s.case.net.nodes - from))
   pub long : IfSome logs (λ lists. length lists ≡ s.case.net.nodes)
   pub logs_are : IfSome logs (λ lists. (r : ℕ) → from ≤ r → r < s.case.net.nodes → get_or lists r [] ≡ only (simulation s.case) r (run s).events)
-  pub keeps : is_some logs ≡ s.keeps
+  pub retains : is_some logs ≡ s.retains
   pub shards_are : AreVacant s from shards
 
--- what holds of the lists that are kept
-kept_lists : {Y Z : Type 0} (P : List (List Event) → Type 0) (logs : Option (Vec (Vec Event Z) Y)) → IfSome logs (λ logs. P (lists_of logs.items)) → IfSome (kept logs) P
-kept_lists P (Some logs) h = h
-kept_lists P None h = h
+-- what holds of the lists that are retained
+retained_lists : {Y Z : Type 0} (P : List (List Event) → Type 0) (logs : Option (Vec (Vec Event Z) Y)) → IfSome logs (λ logs. P (lists_of logs.items)) → IfSome (retained logs) P
+retained_lists P (Some logs) h = h
+retained_lists P None h = h
 
-pub kept_some : {Y Z : Type 0} (logs : Option (Vec (Vec Event Z) Y)) → is_some (kept logs) ≡ is_some logs
-kept_some (Some logs) = refl
-kept_some None = refl
+pub retained_some : {Y Z : Type 0} (logs : Option (Vec (Vec Event Z) Y)) → is_some (retained logs) ≡ is_some logs
+retained_some (Some logs) = refl
+retained_some None = refl
 
 if_some : {A : Type 0} (P Q : A → Type 0) → ((a : A) → P a → Q a) → (o : Option A) → IfSome o P → IfSome o Q
 if_some P Q f (Some a) h = f a h
@@ -118,20 +118,20 @@ module _ (s : Start) where
 
   -- none has come
   pub none_came : {Y Z : Type 0} (routers : List Router) (logs : Option (Vec (Vec Event Z) Y)) (shards : List Vacant) → routers ≡ routers_after s.case (run s).events
-      → IfSome logs (λ logs. lists_of logs.items ≡ logs_after s.case (run s).events) → is_some logs ≡ s.keeps → AreVacant s 0 shards
-      → AreComing s 0 routers (kept logs) shards
-  none_came routers logs shards routers_are logs_are keeps vacant =
+      → IfSome logs (λ logs. lists_of logs.items ≡ logs_after s.case (run s).events) → is_some logs ≡ s.retains → AreVacant s 0 shards
+      → AreComing s 0 routers (retained logs) shards
+  none_came routers logs shards routers_are logs_are retains vacant =
       let nodes = s.case.net.nodes in
       let all : nodes ≡ nodes - 0 = omega arith in
-      let lists = kept_lists (λ lists. lists ≡ logs_after s.case (run s).events) logs logs_are in
+      let lists = retained_lists (λ lists. lists ≡ logs_after s.case (run s).events) logs logs_are in
       record {
         within = omega arith;
         routers_are = routers_are ∙ ap (λ n. map (router_after s.case (run s).events) (range_with_len 0 n)) all;
         long = if_some (λ lists. lists ≡ logs_after s.case (run s).events) (λ lists. length lists ≡ nodes)
-            (λ lists is. ap (λ ls. length ls) is ∙ length-map-range_with_len (λ r. only m r (run s).events) 0 nodes) (kept logs) lists;
+            (λ lists is. ap (λ ls. length ls) is ∙ length-map-range_with_len (λ r. only m r (run s).events) 0 nodes) (retained logs) lists;
         logs_are = if_some (λ lists. lists ≡ logs_after s.case (run s).events) (λ lists. (r : ℕ) → 0 ≤ r → r < nodes → get_or lists r [] ≡ only m r (run s).events)
-            (λ lists is r least known. ap (λ ls. get_or ls r []) is ∙ get_or-map-range_with_len (λ r. only m r (run s).events) 0 nodes r r [] known (omega arith)) (kept logs) lists;
-        keeps = kept_some logs ∙ keeps;
+            (λ lists is r least known. ap (λ ls. get_or ls r []) is ∙ get_or-map-range_with_len (λ r. only m r (run s).events) 0 nodes r r [] known (omega arith)) (retained logs) lists;
+        retains = retained_some logs ∙ retains;
         shards_are = vacant;
       }
 
@@ -163,7 +163,7 @@ module _ (s : Start) where
         routers_are = next.2;
         long = subst (λ o. IfSome o (λ lists. length lists ≡ nodes)) (sym left) (long_later logs are.long);
         logs_are = subst (λ o. IfSome o (λ lists. (r : ℕ) → from + 1 ≤ r → r < nodes → get_or lists r [] ≡ only m r (run s).events)) (sym left) (logs_later logs are.logs_are);
-        keeps = ap (λ o. is_some o) left ∙ (same_some logs ∙ are.keeps);
+        retains = ap (λ o. is_some o) left ∙ (same_some logs ∙ are.retains);
         shards_are = one_came s from shards now v next.0 home are.shards_are came changed;
       } where
         same_some : (o : Option (List (List Event))) → is_some (option_map (λ lists. set lists from []) o) ≡ is_some o
@@ -191,10 +191,10 @@ module _ (s : Start) where
   pub place_is : (from number : ℕ) → number ≡ from → number < length s.owners → get_or s.owners number 0 ≡ owner_in s from
   place_is from number same within = get_or_default s.owners number 0 s.workers within ∙ ap (owner_in s) same
 
-  -- its events, where they are kept
+  -- its events, where they are retained
   pub log_of : {Y Z : Type 0} (from number : ℕ) (log : List Event) (logs : Option (Vec (Vec Event Z) Y)) → number ≡ from → from < s.case.net.nodes → is_some logs ≡ true
       → IfSome logs (λ logs. log ≡ get_or (lists_of logs.items) number [])
-      → IfSome (kept logs) (λ lists. (r : ℕ) → from ≤ r → r < s.case.net.nodes → get_or lists r [] ≡ only (simulation s.case) r (run s).events)
+      → IfSome (retained logs) (λ lists. (r : ℕ) → from ≤ r → r < s.case.net.nodes → get_or lists r [] ≡ only (simulation s.case) r (run s).events)
       → log ≡ only (simulation s.case) from (run s).events
   log_of from number log None same known some told are = absurd (both_ways false refl some)
   log_of from number log (Some logs) same known some told are = told ∙ (ap (λ k. get_or (lists_of logs.items) k []) same ∙ are from (omega arith) known)
@@ -208,28 +208,28 @@ module _ (s : Start) where
       let all : from ≡ nodes = omega arith in
       subst (λ n. AreVacant s n shards) all are.shards_are
 
--- lists that are kept, one of each router
-pub kept_long : {Y Z : Type 0} (number count : ℕ) (logs : Option (Vec (Vec Event Z) Y)) → number < count → IfSome (kept logs) (λ lists. length lists ≡ count) → IfSome logs (λ logs. number < length logs.items)
-kept_long number count None within long = long
-kept_long {Z = Z} number count (Some logs) within long =
+-- lists that are retained, one of each router
+pub retained_long : {Y Z : Type 0} (number count : ℕ) (logs : Option (Vec (Vec Event Z) Y)) → number < count → IfSome (retained logs) (λ lists. length lists ≡ count) → IfSome logs (λ logs. number < length logs.items)
+retained_long number count None within long = long
+retained_long {Z = Z} number count (Some logs) within long =
     let same = length-map logs.items (λ (log : Vec Event Z). log.items) in
     omega arith
 
 -- one of them is taken
 pub one_taken : {Y Z : Type 0} (logs : Option (Vec (Vec Event Z) Y)) (some : Vec (Vec Event Z) Y) (r : ℕ) (left : Vec Event Z) → logs ≡ Some some → left.items ≡ []
-    → Some (lists_of (set some.items r left)) ≡ option_map (λ lists. set lists r []) (kept logs)
+    → Some (lists_of (set some.items r left)) ≡ option_map (λ lists. set lists r []) (retained logs)
 one_taken {Y = Y} {Z = Z} logs some r left is none =
     let taken : lists_of (set some.items r left) ≡ set (lists_of some.items) r [] =
     map-set (λ (log : Vec Event Z). log.items) some.items r left ∙ ap (λ (l : List Event). set (lists_of some.items) r l) none in
-    ap (λ (lists : List (List Event)). Some lists) taken ∙ ap (λ (o : Option (Vec (Vec Event Z) Y)). option_map (λ lists. set lists r []) (kept o)) (sym is)
+    ap (λ (lists : List (List Event)). Some lists) taken ∙ ap (λ (o : Option (Vec (Vec Event Z) Y)). option_map (λ lists. set lists r []) (retained o)) (sym is)
 
 -- all have come, and each shard is its worker's at the time
 pub closed_at : (s : Start) (vs : List Vacant) (ss : List Shard) → AreVacant s s.case.net.nodes vs → length ss ≡ length vs
-    → ((k : ℕ) → k < length ss → IsClosed (get_or vs k no_vacant) (get_or ss k no_shard))
-    → (k : ℕ) → k < length ss → IsShardAt s.case (owner_in s) s.time k s.keeps s.cancel (get_or ss k no_shard)
+    → ((k : ℕ) → k < length ss → IsFilled (get_or vs k no_vacant) (get_or ss k no_shard))
+    → (k : ℕ) → k < length ss → IsShardAt s.case (owner_in s) s.time k s.retains s.cancel (get_or ss k no_shard)
 closed_at s vs ss are long closed k within =
     let count = are.count in
-    subst (λ v. IsClosed v (get_or ss k no_shard)) (are.each k (omega arith)) (closed k within) (owner_in s) refl
+    subst (λ v. IsFilled v (get_or ss k no_shard)) (are.each k (omega arith)) (closed k within) (owner_in s) refl
 
 -- none is missing at any
 pub whole_all : (s : Start) (vs : List Vacant) → AreVacant s s.case.net.nodes vs → AllByRecursion (λ v. v.missing ≡ []) vs
@@ -254,13 +254,13 @@ pub record AreClosed (all left : List Vacant) (shards : List Shard) : Type 0 whe
   pub items : left ≡ drop (length shards) all
   pub fits : length shards ≤ length all
   pub whole : AllByRecursion (λ v. v.missing ≡ []) left
-  pub each : (k : ℕ) → k < length shards → IsClosed (get_or all k no_vacant) (get_or shards k no_shard)
+  pub each : (k : ℕ) → k < length shards → IsFilled (get_or all k no_vacant) (get_or shards k no_shard)
 
 pub none_closed : (all left : List Vacant) (shards : List Shard) → left ≡ all → shards ≡ [] → AllByRecursion (λ v. v.missing ≡ []) all → AreClosed all left shards
 none_closed all left shards all_left none whole =
     subst (AreClosed all left) (sym none) (subst (λ l. AreClosed all l []) (sym all_left) record { items = refl; fits = omega arith; whole = whole; each = λ k l. absurd (omega arith) })
 
-pub one_closed : (all left : List Vacant) (v : Vacant) (shards now : List Shard) (s : Shard) → AreClosed all (v ∷ left) shards → IsClosed v s → now ≡ shards ++ s ∷ [] → AreClosed all left now
+pub one_closed : (all left : List Vacant) (v : Vacant) (shards now : List Shard) (s : Shard) → AreClosed all (v ∷ left) shards → IsFilled v s → now ≡ shards ++ s ∷ [] → AreClosed all left now
 one_closed all left v shards now s are closed more =
     let n = length shards in
     let front = at_front n all v left no_vacant (sym are.items) in
@@ -269,8 +269,8 @@ one_closed all left v shards now s are closed more =
       items = sym front.2 ∙ ap (λ k. drop k all) (sym long);
       fits = (let within = front.0 in omega arith);
       whole = are.whole.1;
-      each = λ k l. one_more (λ k u. IsClosed (get_or all k no_vacant) u) shards s no_shard n refl are.each
-          (subst (λ u. IsClosed u s) (sym front.1) closed) k (omega arith);
+      each = λ k l. one_more (λ k u. IsFilled (get_or all k no_vacant) u) shards s no_shard n refl are.each
+          (subst (λ u. IsFilled u s) (sym front.1) closed) k (omega arith);
     }
 
 -- all are closed where none waits

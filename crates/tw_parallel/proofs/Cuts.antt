@@ -11,7 +11,7 @@ use Rattle.tw_core.specs.Machine.{AreCounted, Core, committed}
 use Rattle.tw_core.specs.Parts.{Part}
 use Rattle.tw_event.specs.declared.event.Event.{Event}
 use Rattle.tw_event.specs.Order.{event_before}
-use Rattle.tw_exchange.specs.Board.{Board, opening, who}
+use Rattle.tw_exchange.specs.Board.{Board, new_board, who}
 use Rattle.tw_model.proofs.Lawful.{lawful, numbered}
 use Rattle.tw_model.specs.Case.{Case, IsCase, simulation}
 use Rattle.tw_model.specs.declared.limits.TheConstants.{LATEST}
@@ -31,7 +31,7 @@ use Rattle.tw_rule.specs.Cut.{AreCutPlaces, IsCutBoard, IsCutPlace}
 use Rattle.tw_rule.specs.Place.{Place, part_of}
 use Rattle.tw_shard.specs.Cut.{IsShardAt}
 use Rattle.tw_shard.specs.Past.{own_run}
-use Rattle.tw_shard.specs.Shard.{Shard, core, no_shard, owns, timeline}
+use Rattle.tw_shard.specs.Shard.{Shard, no_shard, owns, shard_core, timeline}
 use Rattle.tw_shard.specs.Timeline.{Timeline, history}
 use Rattle.tw_sim.proofs.Counts.{in_filter, times-filter-no, times-filter-yes}
 use Rattle.tw_sim.proofs.Unique.{all_below}
@@ -54,31 +54,31 @@ run_below case is r time =
 
 -- ---- shares at a time
 
-module _ (case : Case) (is : IsCase case) (whose : ℕ → ℕ) (time : ℕ) (keeps : Bool) (cancel : Cancel) where
+module _ (case : Case) (is : IsCase case) (whose : ℕ → ℕ) (time : ℕ) (retains : Bool) (cancel : Cancel) where
   abbrev m : Simulation State Event
   m = simulation case
 
   -- a router of the case that is worker k's is at its shard
-  is_own : (k r : ℕ) (t : Share) → IsShareAt case whose time k keeps cancel t → r < case.net.nodes → owns t.shard r ≡ (whose r == k)
+  is_own : (k r : ℕ) (t : Share) → IsShareAt case whose time k retains cancel t → r < case.net.nodes → owns t.shard r ≡ (whose r == k)
   is_own k r t at known = at.shard.owns_are r ∙ ap (λ b. b && (whose r == k)) (lt-ltb r case.net.nodes known)
 
   -- and all that are there are so
-  own_parts : (k r : ℕ) (t : Share) → IsShareAt case whose time k keeps cancel t → owns t.shard r ≡ true → (nat_lt r case.net.nodes ≡ true) × ((whose r == k) ≡ true)
+  own_parts : (k r : ℕ) (t : Share) → IsShareAt case whose time k retains cancel t → owns t.shard r ≡ true → (nat_lt r case.net.nodes ≡ true) × ((whose r == k) ≡ true)
   own_parts k r t at own = and_parts (nat_lt r case.net.nodes) (whose r == k) (sym (at.shard.owns_are r) ∙ own)
 
   -- what such a router has handled
-  own_history : (k r : ℕ) (t : Share) → IsShareAt case whose time k keeps cancel t → owns t.shard r ≡ true → (core 0 t.shard).history r ≡ own_run case r time
+  own_history : (k r : ℕ) (t : Share) → IsShareAt case whose time k retains cancel t → owns t.shard r ≡ true → (shard_core 0 t.shard).history r ≡ own_run case r time
   own_history k r t at own = rw own (ap history (at.shard.routers r own))
 
-  own_done : (k r : ℕ) (t : Share) → IsShareAt case whose time k keeps cancel t → owns t.shard r ≡ true → (core 0 t.shard).done r ≡ time
+  own_done : (k r : ℕ) (t : Share) → IsShareAt case whose time k retains cancel t → owns t.shard r ≡ true → (shard_core 0 t.shard).done r ≡ time
   own_done k r t at own = rw own (ap (λ (t : Timeline). t.done) (at.shard.routers r own))
 
-  history_at : (k r : ℕ) (t : Share) → IsShareAt case whose time k keeps cancel t → (core 0 t.shard).history r ≡ cond (whose r == k) (own_run case r time) []
+  history_at : (k r : ℕ) (t : Share) → IsShareAt case whose time k retains cancel t → (shard_core 0 t.shard).history r ≡ cond (whose r == k) (own_run case r time) []
   history_at k r t at =
       elim (cases_Bool (owns t.shard r)) [
         | inl own ↦ own_history k r t at own ∙ sym (ap (λ b. cond b (own_run case r time) []) (own_parts k r t at own).1)
         | inr other ↦ (
-            let here : (core 0 t.shard).history r ≡ [] = rw other refl in
+            let here : (shard_core 0 t.shard).history r ≡ [] = rw other refl in
             here ∙ sym (elim (cases_lt r case.net.nodes) [
               | inl known ↦ ap (λ b. cond b (own_run case r time) []) (sym (is_own k r t at known) ∙ other)
               | inr beyond ↦ elim (cases_Bool (whose r == k)) [
@@ -89,26 +89,26 @@ module _ (case : Case) (is : IsCase case) (whose : ℕ → ℕ) (time : ℕ) (ke
             ]))
       ]
 
-  done_at : (k r : ℕ) (t : Share) → IsShareAt case whose time k keeps cancel t → (core 0 t.shard).done r ≤ time
+  done_at : (k r : ℕ) (t : Share) → IsShareAt case whose time k retains cancel t → (shard_core 0 t.shard).done r ≤ time
   done_at k r t at =
       elim (cases_Bool (owns t.shard r)) [
         | inl own ↦ (let same = own_done k r t at own in omega arith)
-        | inr other ↦ (let here : (core 0 t.shard).done r ≡ 0 = rw other refl in omega arith)
+        | inr other ↦ (let here : (shard_core 0 t.shard).done r ≡ 0 = rw other refl in omega arith)
       ]
 
   -- as many events are counted as committed as are committed: all that it has handled
-  counted_at : (k r : ℕ) (t : Share) → IsShareAt case whose time k keeps cancel t → (core 0 t.shard).past r ≡ length (below m ((core 0 t.shard).done r) ((core 0 t.shard).history r))
+  counted_at : (k r : ℕ) (t : Share) → IsShareAt case whose time k retains cancel t → (shard_core 0 t.shard).past r ≡ length (below m ((shard_core 0 t.shard).done r) ((shard_core 0 t.shard).history r))
   counted_at k r t at =
       elim (cases_Bool (owns t.shard r)) [
         | inl own ↦ (
-            let counted : (core 0 t.shard).past r ≡ length (own_run case r time) = rw own (ap (λ (t : Timeline). length t.past) (at.shard.routers r own)) in
-            let same : length (below m ((core 0 t.shard).done r) ((core 0 t.shard).history r)) ≡ length (below m time (own_run case r time))
+            let counted : (shard_core 0 t.shard).past r ≡ length (own_run case r time) = rw own (ap (λ (t : Timeline). length t.past) (at.shard.routers r own)) in
+            let same : length (below m ((shard_core 0 t.shard).done r) ((shard_core 0 t.shard).history r)) ≡ length (below m time (own_run case r time))
             = λ i. length (below m (own_done k r t at own i) (own_history k r t at own i)) in
             counted ∙ sym (same ∙ ap length (run_below case is r time)))
         | inr other ↦ rw other refl
       ]
 
-  pending_at : (k : ℕ) (t : Share) → IsShareAt case whose time k keeps cancel t → (e : Event) → times m e t.shard.pending ≡ cond (whose e.dst == k) (times m e (rest m time)) 0
+  pending_at : (k : ℕ) (t : Share) → IsShareAt case whose time k retains cancel t → (e : Event) → times m e t.shard.pending ≡ cond (whose e.dst == k) (times m e (rest m time)) 0
   pending_at k t at e =
       ap (times m e) at.shard.pending
       ∙ elim (cases_Bool (whose e.dst == k)) [
@@ -117,7 +117,7 @@ module _ (case : Case) (is : IsCase case) (whose : ℕ → ℕ) (time : ℕ) (ke
       ]
 
   -- a share at a time is a place at the cut
-  place_at : (k : ℕ) (t : Share) → IsShareAt case whose time k keeps cancel t → IsCutPlace m whose time k (place_of t)
+  place_at : (k : ℕ) (t : Share) → IsShareAt case whose time k retains cancel t → IsCutPlace m whose time k (place_of t)
   place_at k t at = record {
     worker = at.shard.worker;
     owns = λ r known. is_own k r t at known;
@@ -133,17 +133,17 @@ module _ (case : Case) (is : IsCase case) (whose : ℕ → ℕ) (time : ℕ) (ke
     unsent = at.unsent;
   }
 
-  places_at : (k : ℕ) (ts : List Share) → AreSharesAt case whose time k keeps cancel ts → AreCutPlaces m whose time k (map place_of ts)
+  places_at : (k : ℕ) (ts : List Share) → AreSharesAt case whose time k retains cancel ts → AreCutPlaces m whose time k (map place_of ts)
   places_at k [] at = tt
   places_at k (t ∷ ts) at = (place_at k t at.0, places_at (suc k) ts at.1)
 
   -- what holds of each share at a time
-  all_shares : (Q : Share → Type 0) → ((k : ℕ) (t : Share) → IsShareAt case whose time k keeps cancel t → Q t) → (k : ℕ) (ts : List Share) → AreSharesAt case whose time k keeps cancel ts
+  all_shares : (Q : Share → Type 0) → ((k : ℕ) (t : Share) → IsShareAt case whose time k retains cancel t → Q t) → (k : ℕ) (ts : List Share) → AreSharesAt case whose time k retains cancel ts
       → AllByRecursion Q ts
   all_shares Q f k [] at = tt
   all_shares Q f k (t ∷ ts) at = (f k t at.0, all_shares Q f (suc k) ts at.1)
 
-  in_order : (k : ℕ) (ts : List Share) → AreSharesAt case whose time k keeps cancel ts → map (λ (t : Share). t.shard.worker) ts ≡ range_with_len k (length ts)
+  in_order : (k : ℕ) (ts : List Share) → AreSharesAt case whose time k retains cancel ts → map (λ (t : Share). t.shard.worker) ts ≡ range_with_len k (length ts)
   in_order k [] at = refl
   in_order k (t ∷ ts) at =
       let next : suc k ≡ k + 1 = omega arith in
@@ -151,37 +151,37 @@ module _ (case : Case) (is : IsCase case) (whose : ℕ → ℕ) (time : ℕ) (ke
       λ i. at.0.shard.worker i ∷ others i
 
   -- when they take back what undone events have sent
-  pub cancels_at : (k : ℕ) (ts : List Share) → AreSharesAt case whose time k keeps cancel ts → map (λ (t : Share). t.shard.cancel) ts ≡ replicate (length ts) cancel
+  pub cancels_at : (k : ℕ) (ts : List Share) → AreSharesAt case whose time k retains cancel ts → map (λ (t : Share). t.shard.cancel) ts ≡ replicate (length ts) cancel
   cancels_at k [] at = refl
   cancels_at k (t ∷ ts) at = λ i. at.0.shard.cancel_is i ∷ cancels_at (suc k) ts at.1 i
 
-  -- whether they keep their events
-  pub keeps_at : (k : ℕ) (ts : List Share) → keeps ≡ true → AreSharesAt case whose time k keeps cancel ts → AllByRecursion (λ (t : Share). t.shard.keeps ≡ true) ts
-  keeps_at k ts all at = all_shares (λ t. t.shard.keeps ≡ true) (λ k t one. one.shard.keeps_are ∙ all) k ts at
+  -- whether they retain their events
+  pub retains_at : (k : ℕ) (ts : List Share) → retains ≡ true → AreSharesAt case whose time k retains cancel ts → AllByRecursion (λ (t : Share). t.shard.retains ≡ true) ts
+  retains_at k ts all at = all_shares (λ t. t.shard.retains ≡ true) (λ k t one. one.shard.retains_are ∙ all) k ts at
 
   -- shards at a time, with an empty hand each
-  pub shares_at : (k : ℕ) (ss : List Shard) (hs : List Hand) → length hs ≡ length ss → ((j : ℕ) → j < length ss → IsShardAt case whose time (k + j) keeps cancel (get_or ss j no_shard))
-      → AllByRecursion IsEmptyHand hs → AreSharesAt case whose time k keeps cancel (shares_of ss hs)
+  pub shares_at : (k : ℕ) (ss : List Shard) (hs : List Hand) → length hs ≡ length ss → ((j : ℕ) → j < length ss → IsShardAt case whose time (k + j) retains cancel (get_or ss j no_shard))
+      → AllByRecursion IsEmptyHand hs → AreSharesAt case whose time k retains cancel (shares_of ss hs)
   shares_at k [] hs same each empty = tt
   shares_at k (s ∷ ss) [] same each empty = absurd (omega arith)
   shares_at k (s ∷ ss) (h ∷ hs) same each empty = (
     record {
-      shard = subst (λ i. IsShardAt case whose time i keeps cancel s) (omega arith) (each 0 (omega arith));
+      shard = subst (λ i. IsShardAt case whose time i retains cancel s) (omega arith) (each 0 (omega arith));
       mail = λ i. drop (empty.0.next i) (empty.0.mail i);
       unsent = empty.0.out;
     },
-    shares_at (suc k) ss hs (omega arith) (λ j l. subst (λ i. IsShardAt case whose time i keeps cancel (get_or ss j no_shard)) (omega arith) (each (suc j) (omega arith))) empty.1,
+    shares_at (suc k) ss hs (omega arith) (λ j l. subst (λ i. IsShardAt case whose time i retains cancel (get_or ss j no_shard)) (omega arith) (each (suc j) (omega arith))) empty.1,
   )
 
 -- ---- an exchange at a time
 
 -- one that begins there, whether a list says the worker of each router or not
-pub exchange_at : (n time stop : ℕ) (owners : Option (List ℕ)) → time ≤ stop → IsExchangeAt n time (record (opening n time stop) { owners = owners })
+pub exchange_at : (n time stop : ℕ) (owners : Option (List ℕ)) → time ≤ stop → IsExchangeAt n time (record (new_board n time stop) { owners = owners })
 exchange_at n time stop owners le = record { mail = no_mail n; reports = refl; bound = refl; stop = le }
 
 -- ---- a run at a time
 
-module _ (case : Case) (time : ℕ) (keeps : Bool) (cancel : Cancel) (x : Board) (shares : List Share) (at : StandAt case time keeps cancel x shares) where
+module _ (case : Case) (time : ℕ) (retains : Bool) (cancel : Cancel) (x : Board) (shares : List Share) (at : StandAt case time retains cancel x shares) where
   abbrev pub sim : Sim
   sim = record { case = case; board = x; shares = shares }
 
@@ -198,16 +198,16 @@ module _ (case : Case) (time : ℕ) (keeps : Bool) (cancel : Cancel) (x : Board)
   pub ruled_at : IsRuled case x shares
   ruled_at = record {
     is_case = at.is_case;
-    cases = all_shares case at.is_case (who x) time keeps cancel (λ t. t.shard.case ≡ case) (λ k t one. one.shard.case_is) 0 shares at.each;
+    cases = all_shares case at.is_case (who x) time retains cancel (λ t. t.shard.case ≡ case) (λ k t one. one.shard.case_is) 0 shares at.each;
     count = sym (ap length at.exchange.reports ∙ length-replicate (length shares) (Some time));
     rule = rule_at_cut (simulation case) (lawful case at.is_case) (numbered case at.is_case) (who x) time (board_of x) (map place_of shares) board_at
-        (places_at case at.is_case (who x) time keeps cancel 0 shares at.each) all_routers;
+        (places_at case at.is_case (who x) time retains cancel 0 shares at.each) all_routers;
   }
 
   -- its machine stands at the cut
   pub machine_at : IsCut (simulation case) time (machine sim)
   machine_at = machine_at_cut (simulation case) (lawful case at.is_case) (numbered case at.is_case) (who x) time (board_of x) (map place_of shares) board_at
-      (places_at case at.is_case (who x) time keeps cancel 0 shares at.each) all_routers
+      (places_at case at.is_case (who x) time retains cancel 0 shares at.each) all_routers
 
   -- it is a parallel run
   pub sim_at : 0 < length shares → x.stop ≤ LATEST → IsSim sim
@@ -215,14 +215,14 @@ module _ (case : Case) (time : ℕ) (keeps : Bool) (cancel : Cancel) (x : Board)
       let count = ruled_at.count in
       record {
         some = omega arith;
-        order = in_order case at.is_case (who x) time keeps cancel 0 shares at.each ∙ ap (range_with_len 0) count;
+        order = in_order case at.is_case (who x) time retains cancel 0 shares at.each ∙ ap (range_with_len 0) count;
         ruled = ruled_at;
-        known = all_shares case at.is_case (who x) time keeps cancel (AreOf case)
-            (λ k t one r own. ltb-true r case.net.nodes (own_parts case at.is_case (who x) time keeps cancel k r t one own).0) 0 shares at.each;
+        known = all_shares case at.is_case (who x) time retains cancel (AreOf case)
+            (λ k t one r own. ltb-true r case.net.nodes (own_parts case at.is_case (who x) time retains cancel k r t one own).0) 0 shares at.each;
         alike = record {
-          keeps = keeps;
+          retains = retains;
           cancel = cancel;
-          each = all_shares case at.is_case (who x) time keeps cancel (λ t. (t.shard.keeps ≡ keeps) × (t.shard.cancel ≡ cancel)) (λ k t one. (one.shard.keeps_are, one.shard.cancel_is)) 0 shares
+          each = all_shares case at.is_case (who x) time retains cancel (λ t. (t.shard.retains ≡ retains) × (t.shard.cancel ≡ cancel)) (λ k t one. (one.shard.retains_are, one.shard.cancel_is)) 0 shares
               at.each;
         };
         stop = most;
@@ -234,8 +234,8 @@ module _ (case : Case) (time : ℕ) (keeps : Bool) (cancel : Cancel) (x : Board)
       let ps = map place_of shares in
       let once = owners_once (simulation case) (lawful case at.is_case) (who x) (board_of x) ps r ruled_at.rule known in
       let same = total_map (λ (p : Part Event). cond (p.owns r) 1 0) (part_of x.stop) ps in
-      let each = all_shares case at.is_case (who x) time keeps cancel (λ t. owns t.shard r ≡ true → (core 0 t.shard).done r ≡ time)
-      (λ k t one own. own_done case at.is_case (who x) time keeps cancel k r t one own) 0 shares at.each in
+      let each = all_shares case at.is_case (who x) time retains cancel (λ t. owns t.shard r ≡ true → (shard_core 0 t.shard).done r ≡ time)
+      (λ k t one own. own_done case at.is_case (who x) time retains cancel k r t one own) 0 shares at.each in
       of_owner r (λ (C : Core Event). C.done r) 0 time (map (part_of x.stop) ps)
       (all_in_map (λ (p : Part Event). p.owns r ≡ true → p.core.done r ≡ time) (part_of x.stop) ps (all_in_map (λ (p : Place Event). p.owns r ≡ true → p.done r ≡ time) place_of shares each))
       (omega arith)
@@ -275,7 +275,7 @@ over_is_a_cut s is settled = cut_at_stop (simulation s.case) (law s is) (numbere
 pub run_of_share : (s : Sim) → IsSim s → IsSettled s → (i r : ℕ) (t : Share) → slice_get s.shares i ≡ Some t → owns t.shard r ≡ true → history (timeline t.shard r) ≡ own_run s.case r s.board.stop
 run_of_share s is settled i r t there own =
     let known = all_at (AreOf s.case) s.shares i t there is.known r own in
-    let here : (core 0 t.shard).history r ≡ history (timeline t.shard r) = rw own refl in
+    let here : (shard_core 0 t.shard).history r ≡ history (timeline t.shard r) = rw own refl in
     sym here ∙ handled_of (simulation s.case) (law s is) (who s.board) (numbered s.case is.ruled.is_case) (board_of s.board) (map place_of s.shares) i r (place_of t) is.ruled.rule
     (get_map place_of s.shares i t there) known own settled.bound
 

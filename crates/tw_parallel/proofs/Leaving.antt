@@ -44,9 +44,9 @@ module _ (case : Case) (is : IsCase case) (time r : ℕ) where
       λ i. record { net = case.net; node = r; state = same i }
 
   -- a router of the run comes to a shard
-  pub comes : (keeps : Bool) (x : RouterAt) → x.router ≡ router_after case events r → record { newest = x.newest; change = x.last_change } ≡ trace_after case events r
-      → (keeps ≡ true → x.events.items ≡ only (simulation case) r events) → IsRouterOf (timeline_at case keeps time r) x
-  comes keeps x router trace log =
+  pub comes : (retains : Bool) (x : RouterAt) → x.router ≡ router_after case events r → record { newest = x.newest; change = x.last_change } ≡ trace_after case events r
+      → (retains ≡ true → x.events.items ≡ only (simulation case) r events) → IsRouterOf (timeline_at case retains time r) x
+  comes retains x router trace log =
       let told = trace ∙ trace_is in
       record {
         router = router ∙ router_is;
@@ -66,5 +66,5 @@ module _ (case : Case) (is : IsCase case) (time r : ℕ) where
         let change = of.change ∙ (λ i. last_change_at (net i) (node i) (run i)) in
         (λ i. record { newest = newest i; change = change i }) ∙ sym trace_is
 
-    pub leaves_log : t.keeps ≡ true → x.events.items ≡ only (simulation case) r events
+    pub leaves_log : t.retains ≡ true → x.events.items ≡ only (simulation case) r events
     leaves_log kept = of.events kept ∙ (ap reverse run ∙ sym log_is)

@@ -69,7 +69,7 @@ module _ (case : Case) where
 pub rearranged_self : (s : Sim) → IsRearranged s s
 rearranged_self s = record {
   same = same_self s.case (machine s);
-  goes_on = record { case = refl; workers = refl; keeps = λ k. k; cancels = refl; bound = omega arith };
+  goes_on = record { case = refl; workers = refl; retains = λ k. k; cancels = refl; bound = omega arith };
   stop = refl;
 }
 
@@ -81,7 +81,7 @@ rearranged_both s t u one two =
       goes_on = record {
         case = two.goes_on.case ∙ one.goes_on.case;
         workers = two.goes_on.workers ∙ one.goes_on.workers;
-        keeps = λ k. two.goes_on.keeps (one.goes_on.keeps k);
+        retains = λ k. two.goes_on.retains (one.goes_on.retains k);
         cancels = two.goes_on.cancels ∙ one.goes_on.cancels;
         bound = (let a = one.goes_on.bound in let b = two.goes_on.bound in omega arith);
       };
@@ -151,10 +151,10 @@ module _ (s : Sim) (is : IsSim s) (r from to : ℕ) (apart : from ≡ to → ⊥
         (λ same. apart (sym worker_from ∙ (same ∙ worker_to))) listed known (was ∙ sym worker_from) moved));
     known = each_later (AreOf s.case) is.known (λ old k own. old k (left_owned k own)) (λ old first k own. came_owned old k own);
     alike = record {
-      keeps = is.alike.keeps;
+      retains = is.alike.retains;
       cancel = is.alike.cancel;
-      each = each_later (λ u. (u.shard.keeps ≡ is.alike.keeps) × (u.shard.cancel ≡ is.alike.cancel)) is.alike.each
-          (λ old. (moved.left.terms.keeps ∙ old.0, moved.left.terms.cancel ∙ old.1)) (λ old first. (moved.came.terms.keeps ∙ old.0, moved.came.terms.cancel ∙ old.1));
+      each = each_later (λ u. (u.shard.retains ≡ is.alike.retains) × (u.shard.cancel ≡ is.alike.cancel)) is.alike.each
+          (λ old. (moved.left.terms.retains ∙ old.0, moved.left.terms.cancel ∙ old.1)) (λ old first. (moved.came.terms.retains ∙ old.0, moved.came.terms.cancel ∙ old.1));
     };
     stop = is.stop;
   }
@@ -169,7 +169,7 @@ module _ (s : Sim) (is : IsSim s) (r from to : ℕ) (apart : from ≡ to → ⊥
     goes_on = record {
       case = refl;
       workers = same_workers;
-      keeps = λ keep. each_later (λ u. u.shard.keeps ≡ true) keep (λ old. moved.left.terms.keeps ∙ old) (λ old first. moved.came.terms.keeps ∙ old);
+      retains = λ keep. each_later (λ u. u.shard.retains ≡ true) keep (λ old. moved.left.terms.retains ∙ old) (λ old first. moved.came.terms.retains ∙ old);
       cancels = map_later (λ u. u.shard.cancel) moved.left.terms.cancel moved.came.terms.cancel;
       bound = omega arith;
     };
@@ -233,10 +233,10 @@ module _ (a : Inside) (is : IsInside a) (r from to : ℕ) (known : r < a.case.no
 
   -- what all shares have alike
   alike : (k : ℕ) (h : Hand) → slice_get v.shares k ≡ Some (share (get_or ss k no_shard) h)
-      → ((get_or ss k no_shard).case ≡ v.case) × ((get_or ss k no_shard).keeps ≡ is.sim.alike.keeps) × ((get_or ss k no_shard).cancel ≡ is.sim.alike.cancel)
+      → ((get_or ss k no_shard).case ≡ v.case) × ((get_or ss k no_shard).retains ≡ is.sim.alike.retains) × ((get_or ss k no_shard).cancel ≡ is.sim.alike.cancel)
   alike k h there =
       let t = share (get_or ss k no_shard) h in
-      let terms = all_at (λ (u : Share). (u.shard.keeps ≡ is.sim.alike.keeps) × (u.shard.cancel ≡ is.sim.alike.cancel)) v.shares k t there is.sim.alike.each in
+      let terms = all_at (λ (u : Share). (u.shard.retains ≡ is.sim.alike.retains) × (u.shard.cancel ≡ is.sim.alike.cancel)) v.shares k t there is.sim.alike.each in
       (all_at (λ (u : Share). u.shard.case ≡ v.case) v.shares k t there is.sim.ruled.cases, terms.0, terms.1)
 
   passes : MayPass r (who a.exchange r) to ss
@@ -248,7 +248,7 @@ module _ (a : Inside) (is : IsInside a) (r from to : ℕ) (known : r < a.case.no
       let stands = all_at (Stands (simulation v.case) (who v.board) (board_of v.board)) (map place_of v.shares) to (place_of t) place is.sim.ruled.rule.each in
       let worker : t.shard.worker ≡ 0 + to = worker_there 0 (workers v.board) to v.shares t is.sim.order target_share.1 in
       record {
-        like = record { case = two.0 ∙ sym one.0; keeps = two.1 ∙ sym one.1; cancel = two.2 ∙ sym one.2 };
+        like = record { case = two.0 ∙ sym one.0; retains = two.1 ∙ sym one.1; cancel = two.2 ∙ sym one.2 };
         own = (own_there a is r known).1;
         new = stands.owns r known ∙ ne_eqb (who a.exchange r) t.shard.worker (λ same. apart (same ∙ (let is_to : t.shard.worker ≡ to = omega arith in is_to)));
       }

@@ -8,7 +8,7 @@ use Rattle.tw_core.specs.declared.limits.TheConstants.{OPENING_ROOM}
 use Rattle.tw_core.specs.Machine.{Core, IsOpening}
 use Rattle.tw_core.specs.Parts.{Part, at_owner}
 use Rattle.tw_event.specs.declared.event.Event.{Event}
-use Rattle.tw_exchange.specs.Board.{opening, workers}
+use Rattle.tw_exchange.specs.Board.{new_board, workers}
 use Rattle.tw_sim.specs.Owners.{owner}
 use Rattle.tw_model.proofs.Lawful.{lawful}
 use Rattle.tw_model.specs.Case.{Case, IsCase, simulation}
@@ -28,14 +28,14 @@ use Rattle.tw_warp.proofs.Openings.{all_wait, waits}
 use Rattle.tw_warp.specs.Warp.{no_shard}
 use Rattle.tw_table.proofs.Openings.{no_mail}
 
-module _ (case : Case) (is : IsCase case) (n : ℕ) (keeps : Bool) (cancel : Cancel) where
+module _ (case : Case) (is : IsCase case) (n : ℕ) (retains : Bool) (cancel : Cancel) where
   -- a shard and a hand that begin are a place that begins
-  place_opens : (k : ℕ) (s : Shard) (h : Hand) → IsOpeningShard case k n keeps cancel s → IsEmptyHand h → IsOpeningPlace (simulation case) (owner n) k (place_of (share s h))
+  place_opens : (k : ℕ) (s : Shard) (h : Hand) → IsOpeningShard case k n retains cancel s → IsEmptyHand h → IsOpeningPlace (simulation case) (owner n) k (place_of (share s h))
   place_opens k s h at empty = record {
     worker = at.worker;
     owns = λ r l. at.owns_are r ∙ ap (λ b. b && (owner n r == k)) (lt-ltb r case.net.nodes l);
     history = λ r. ap (λ (C : Core Event). C.history r) (at.core_is 0);
-    pending = λ e. waits case is n keeps cancel k s e at;
+    pending = λ e. waits case is n retains cancel k s e at;
     kept = ap (λ (C : Core Event). C.kept) (at.core_is 0);
     outgoing = ap (λ (C : Core Event). C.flight) (at.core_is 0);
     held = ap (λ (C : Core Event). C.held) (at.core_is 0);
@@ -48,13 +48,13 @@ module _ (case : Case) (is : IsCase case) (n : ℕ) (keeps : Bool) (cancel : Can
 
   -- the shards of the workers from k on begin
   abbrev Begin : ℕ → List Shard → Type 0
-  Begin k ss = (j : ℕ) → j < length ss → IsOpeningShard case (k + j) n keeps cancel (get_or ss j no_shard)
+  Begin k ss = (j : ℕ) → j < length ss → IsOpeningShard case (k + j) n retains cancel (get_or ss j no_shard)
 
-  first : (k : ℕ) (s : Shard) (ss : List Shard) → Begin k (s ∷ ss) → IsOpeningShard case k n keeps cancel s
-  first k s ss each = subst (λ i. IsOpeningShard case i n keeps cancel s) (omega arith) (each 0 (omega arith))
+  first : (k : ℕ) (s : Shard) (ss : List Shard) → Begin k (s ∷ ss) → IsOpeningShard case k n retains cancel s
+  first k s ss each = subst (λ i. IsOpeningShard case i n retains cancel s) (omega arith) (each 0 (omega arith))
 
   later : (k : ℕ) (s : Shard) (ss : List Shard) → Begin k (s ∷ ss) → Begin (k + 1) ss
-  later k s ss each = λ j h. subst (λ i. IsOpeningShard case i n keeps cancel (get_or ss j no_shard)) (omega arith) (each (suc j) (omega arith))
+  later k s ss each = λ j h. subst (λ i. IsOpeningShard case i n retains cancel (get_or ss j no_shard)) (omega arith) (each (suc j) (omega arith))
 
   places_open : (k : ℕ) (ss : List Shard) (hs : List Hand) → Begin k ss → AllByRecursion IsEmptyHand hs → length hs ≡ length ss
       → AreOpeningPlaces (simulation case) (owner n) k (map place_of (shares_of ss hs))
@@ -95,11 +95,11 @@ module _ (case : Case) (is : IsCase case) (n : ℕ) (keeps : Bool) (cancel : Can
   )
 
   all_alike : (k : ℕ) (ss : List Shard) (hs : List Hand) → Begin k ss → length hs ≡ length ss
-      → AllByRecursion (λ (t : Share). (t.shard.keeps ≡ keeps) × (t.shard.cancel ≡ cancel)) (shares_of ss hs)
+      → AllByRecursion (λ (t : Share). (t.shard.retains ≡ retains) × (t.shard.cancel ≡ cancel)) (shares_of ss hs)
   all_alike k [] hs each same = tt
   all_alike k (s ∷ ss) [] each same = absurd (omega arith)
   all_alike k (s ∷ ss) (h ∷ hs) each same = (
-    ((first k s ss each).keeps_are, ap (λ (C : Core Event). C.cancel) ((first k s ss each).core_is 0)),
+    ((first k s ss each).retains_are, ap (λ (C : Core Event). C.cancel) ((first k s ss each).core_is 0)),
     all_alike (k + 1) ss hs (later k s ss each) (omega arith),
   )
 
@@ -151,30 +151,30 @@ module _ {S E : Type 0} (m : Simulation S E) (who : ℕ → ℕ) (stop : ℕ) wh
   none_flies k (p ∷ ps) h = λ i. ((h.0.mail i ++ h.0.unsent i) ++ h.0.outgoing i) ++ none_flies (suc k) ps h.1 i
 
 -- shards and hands that begin, with a new exchange for as many workers
-module _ (case : Case) (is : IsCase case) (n : ℕ) (keeps : Bool) (cancel : Cancel) (some : 0 < n) (ss : List Shard) (hs : List Hand) (count : length ss ≡ n) (same : length hs ≡ length ss)
-    (each : (k : ℕ) → k < n → IsOpeningShard case k n keeps cancel (get_or ss k no_shard)) (empty : AllByRecursion IsEmptyHand hs) where
+module _ (case : Case) (is : IsCase case) (n : ℕ) (retains : Bool) (cancel : Cancel) (some : 0 < n) (ss : List Shard) (hs : List Hand) (count : length ss ≡ n) (same : length hs ≡ length ss)
+    (each : (k : ℕ) → k < n → IsOpeningShard case k n retains cancel (get_or ss k no_shard)) (empty : AllByRecursion IsEmptyHand hs) where
   abbrev pub new_sim : Sim
-  new_sim = record { case = case; board = opening n 0 0; shares = shares_of ss hs }
+  new_sim = record { case = case; board = new_board n 0 0; shares = shares_of ss hs }
 
-  from_zero : Begin case is n keeps cancel 0 ss
-  from_zero j h = subst (λ k. IsOpeningShard case k n keeps cancel (get_or ss j no_shard)) (omega arith) (each j (omega arith))
+  from_zero : Begin case is n retains cancel 0 ss
+  from_zero j h = subst (λ k. IsOpeningShard case k n retains cancel (get_or ss j no_shard)) (omega arith) (each j (omega arith))
 
   new_places : AreOpeningPlaces (simulation case) (owner n) 0 (map place_of (shares_of ss hs))
-  new_places = places_open case is n keeps cancel 0 ss hs from_zero empty same
+  new_places = places_open case is n retains cancel 0 ss hs from_zero empty same
 
-  many : workers (opening n 0 0) ≡ n
+  many : workers (new_board n 0 0) ≡ n
   many = length-replicate n (Some 0)
 
   long_places : (ts : List Share) → length (map place_of ts) ≡ length ts
   long_places [] = refl
   long_places (t ∷ ts) = let more = long_places ts in omega arith
 
-  new_rule : Rule (simulation case) (owner n) (board_of (opening n 0 0)) (map place_of (shares_of ss hs))
+  new_rule : Rule (simulation case) (owner n) (board_of (new_board n 0 0)) (map place_of (shares_of ss hs))
   new_rule =
       let long = long_places (shares_of ss hs) in
       let all = long_shares ss hs same in
       let places : n ≡ length (map place_of (shares_of ss hs)) = omega arith in
-      rule_opens (simulation case) (lawful case is) (owner n) (board_of (opening n 0 0)) (map place_of (shares_of ss hs))
+      rule_opens (simulation case) (lawful case is) (owner n) (board_of (new_board n 0 0)) (map place_of (shares_of ss hs))
       (record { mail = no_mail n; reports = ap (λ k. replicate k (Some 0)) places; bound = refl }) new_places
       (λ r l. let within : owner n r < n = omega arith in omega arith)
 
@@ -184,15 +184,15 @@ module _ (case : Case) (is : IsCase case) (n : ℕ) (keeps : Bool) (cancel : Can
       let workers_are = many in
       record {
         some = omega arith;
-        order = in_order case is n keeps cancel 0 ss hs from_zero same ∙ ap (range_with_len 0) (omega arith);
+        order = in_order case is n retains cancel 0 ss hs from_zero same ∙ ap (range_with_len 0) (omega arith);
         ruled = record {
           is_case = is;
-          cases = all_of_case case is n keeps cancel 0 ss hs from_zero same;
+          cases = all_of_case case is n retains cancel 0 ss hs from_zero same;
           count = omega arith;
-          rule = subst (λ k. Rule (simulation case) (owner k) (board_of (opening n 0 0)) (map place_of (shares_of ss hs))) (sym many) new_rule;
+          rule = subst (λ k. Rule (simulation case) (owner k) (board_of (new_board n 0 0)) (map place_of (shares_of ss hs))) (sym many) new_rule;
         };
-        known = all_known case is n keeps cancel 0 ss hs from_zero same;
-        alike = record { keeps = keeps; cancel = cancel; each = all_alike case is n keeps cancel 0 ss hs from_zero same };
+        known = all_known case is n retains cancel 0 ss hs from_zero same;
+        alike = record { retains = retains; cancel = cancel; each = all_alike case is n retains cancel 0 ss hs from_zero same };
         stop = omega arith;
       }
 
@@ -202,12 +202,12 @@ module _ (case : Case) (is : IsCase case) (n : ℕ) (keeps : Bool) (cancel : Can
       let ps = map place_of (shares_of ss hs) in
       record {
         history = λ r. no_history m (owner n) 0 r 0 ps new_places;
-        pending = λ e. ap (times m e) (pending_of 0 ss hs same) ∙ (all_wait case is n keeps cancel e ss 0 from_zero).0 (omega arith) (let within : owner n e.dst < n = omega arith in omega arith);
+        pending = λ e. ap (times m e) (pending_of 0 ss hs same) ∙ (all_wait case is n retains cancel e ss 0 from_zero).0 (omega arith) (let within : owner n e.dst < n = omega arith in omega arith);
         kept = none_kept m (owner n) 0 0 ps new_places;
         flight = λ i. no_mail n i ++ none_flies m (owner n) 0 0 ps new_places i;
         held = none_held m (owner n) 0 0 ps new_places;
         done = λ r. none_done m (owner n) 0 r 0 ps new_places;
         past = λ r. none_past m (owner n) 0 r 0 ps new_places;
         bound = refl;
-        room = λ r. first_room m (owner n) 0 r ps (opening_rooms case is n keeps cancel r 0 ss hs from_zero same);
+        room = λ r. first_room m (owner n) 0 r ps (opening_rooms case is n retains cancel r 0 ss hs from_zero same);
       }

@@ -23,7 +23,7 @@ use Rattle.tw_parallel.proofs.Shares.{long_shares, share_there, worker_there}
 use Rattle.tw_parallel.specs.declared.sim.Sim.TheInside.{Inside}
 use Rattle.tw_parallel.specs.Settled.{ahead_of, change_of, states_of}
 use Rattle.tw_parallel.specs.Inside.{IsInside, sim_of}
-use Rattle.tw_parallel.specs.Sim.{AreOf, IsSim, KeepsEvents, Sim, committed_events, machine, reopened}
+use Rattle.tw_parallel.specs.Sim.{AreOf, IsSim, RetainsEvents, Sim, committed_events, machine, reopened}
 use Rattle.tw_rule.proofs.Gives.{rule_reopens}
 use Rattle.tw_rule.proofs.Places.{all_at, all_in_map, get_map}
 use Rattle.tw_rule.proofs.Ruled.{done_of, good_of_rule, history_of, read_of, seq_of_rule}
@@ -31,8 +31,8 @@ use Rattle.tw_rule.specs.Place.{Place, part_of, whole}
 use Rattle.tw_rule.specs.Rule.{Stands}
 use Rattle.tw_shard.proofs.CommittedEvents.{told}
 use Rattle.tw_shard.proofs.Found.{found_at, one_of_all}
-use Rattle.tw_shard.specs.Shard.{Shard, core, no_shard, owns}
-use Rattle.tw_shard.specs.Shards.{HaveAll, KeepAll, ahead_of_all, change_of_all, committed_of_all, ends_of_all, greatest, history_in, shard_for}
+use Rattle.tw_shard.specs.Shard.{Shard, no_shard, owns, shard_core}
+use Rattle.tw_shard.specs.Shards.{HaveAll, RetainAll, ahead_of_all, change_of_all, committed_of_all, ends_of_all, greatest, history_in, shard_for}
 use Rattle.tw_shard.specs.Timeline.{last_change_at}
 use Rattle.tw_sim.specs.Simulation.{Simulation, IsFalling, IsLawful, below, state}
 use Rattle.tw_table.specs.declared.hand.Hand.{Hand}
@@ -42,10 +42,10 @@ use Rattle.tw_table.specs.Shares.{Share, board_of, place_of, share, shares_of}
 pub record Has (s : Sim) (r : ℕ) (x : Shard) : Type 0 where
   pub case : x.case ≡ s.case
   pub own : owns x r ≡ true
-  pub history : (core 0 x).history r ≡ (machine s).history r
-  pub done : (core 0 x).done r ≡ (machine s).done r
-  pub past : (core 0 x).past r ≡ (machine s).past r
-  pub keeps : KeepsEvents s → x.keeps ≡ true
+  pub history : (shard_core 0 x).history r ≡ (machine s).history r
+  pub done : (shard_core 0 x).done r ≡ (machine s).done r
+  pub past : (shard_core 0 x).past r ≡ (machine s).past r
+  pub retains : RetainsEvents s → x.retains ≡ true
 
 module _ (s : Sim) (is : IsSim s) where
   pub law : IsLawful (simulation s.case)
@@ -72,7 +72,7 @@ module _ (s : Sim) (is : IsSim s) where
         history = sym (history_of (simulation s.case) law (who s.board) x ps k r (place_of t) is.ruled.rule place l own);
         done = sym (done_of (simulation s.case) law (who s.board) x ps k r (place_of t) is.ruled.rule place l own);
         past = sym (read_of (simulation s.case) law (who s.board) (λ (C : Core Event). C.past r) 0 x ps k r (place_of t) is.ruled.rule place l own);
-        keeps = λ all. all_at (λ (t : Share). t.shard.keeps ≡ true) s.shares k t there all;
+        retains = λ all. all_at (λ (t : Share). t.shard.retains ≡ true) s.shares k t there all;
       }
 
   -- the share at the place of a router's worker has it
@@ -164,25 +164,25 @@ module _ (a : Inside) (is : IsInside a) where
             here ∙ sym (beyond (λ (C : Core Event). C.history r) [] r (λ t known. rw (none_owned r t.shard far (known r)) refl)))
       ]
 
-  done_there : (r : ℕ) → (core 0 (shard_for ss r)).done r ≡ (machine s).done r
+  done_there : (r : ℕ) → (shard_core 0 (shard_for ss r)).done r ≡ (machine s).done r
   done_there r =
       elim (cases_Bool (nat_lt r s.case.net.nodes)) [
         | inl known ↦ (has_there r (ltb-true r s.case.net.nodes known)).done
         | inr past ↦ (
             let far = ltb-false r s.case.net.nodes past in
-            let here : (core 0 (shard_for ss r)).done r ≡ 0 = rw (none_owned r (shard_for ss r) far (known_there r)) refl in
+            let here : (shard_core 0 (shard_for ss r)).done r ≡ 0 = rw (none_owned r (shard_for ss r) far (known_there r)) refl in
             here ∙ sym (beyond (λ (C : Core Event). C.done r) 0 r (λ t known. rw (none_owned r t.shard far (known r)) refl)))
       ]
 
   histories : (λ r. history_in ss r) ≡ (machine s).history
   histories = fun_ext history_there
 
-  commits : (λ r. (core 0 (shard_for ss r)).done r) ≡ (machine s).done
+  commits : (λ r. (shard_core 0 (shard_for ss r)).done r) ≡ (machine s).done
   commits = fun_ext done_there
 
-  pub keep_all : KeepsEvents s → KeepAll s.case ss
-  keep_all each = record {
-    keeps = λ r known. (has_there r known).keeps each;
+  pub retain_all : RetainsEvents s → RetainAll s.case ss
+  retain_all each = record {
+    retains = λ r known. (has_there r known).retains each;
     falling = subst (λ (h : ℕ → List Event). (r : ℕ) → IsFalling m (h r)) (sym histories) (good_of s is.sim).falling;
   }
 

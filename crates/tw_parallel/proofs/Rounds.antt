@@ -8,7 +8,7 @@ use Rattle.tw_shard.specs.Roster.{has}
 use Rattle.tw_shard.specs.Shard.{IsSameShare, Shard}
 use Rattle.tw_sim.specs.declared.machine.Cancel.{Cancel}
 use Rattle.tw_table.specs.Seats.{bound_at, share_at, stop_at}
-use Rattle.tw_table.specs.Shares.{IsRuled, IsWhole, Share}
+use Rattle.tw_table.specs.Shares.{AreGoodTogether, IsRuled, Share}
 use Rattle.tw_table.specs.declared.seat.Seat.{Seat}
 use Rattle.tw_workers.specs.Work.{AreSameShares}
 
@@ -34,12 +34,12 @@ one_case c d [] ys some same h k = absurd (omega (arith, some))
 one_case c d (x ∷ xs) [] some same h k = absurd same
 one_case c d (x ∷ xs) (y ∷ ys) some same h k = sym k.0 ∙ (same.0.case ∙ h.0)
 
--- and keep their events as before
-still_keep : (xs ys : List Share) → AreSameShares xs ys → AllByRecursion (λ (t : Share). t.shard.keeps ≡ true) xs → AllByRecursion (λ (t : Share). t.shard.keeps ≡ true) ys
-still_keep [] [] same h = tt
-still_keep [] (y ∷ ys) same h = absurd same
-still_keep (x ∷ xs) [] same h = tt
-still_keep (x ∷ xs) (y ∷ ys) same h = (same.0.keeps ∙ h.0, still_keep xs ys same.1 h.1)
+-- and retain their events as before
+still_retain : (xs ys : List Share) → AreSameShares xs ys → AllByRecursion (λ (t : Share). t.shard.retains ≡ true) xs → AllByRecursion (λ (t : Share). t.shard.retains ≡ true) ys
+still_retain [] [] same h = tt
+still_retain [] (y ∷ ys) same h = absurd same
+still_retain (x ∷ xs) [] same h = tt
+still_retain (x ∷ xs) (y ∷ ys) same h = (same.0.retains ∙ h.0, still_retain xs ys same.1 h.1)
 
 -- the routers that they have are of the case as before
 still_known : (c : Case) (xs ys : List Share) → AreSameShares xs ys → AllByRecursion (AreOf c) xs → AllByRecursion (AreOf c) ys
@@ -48,20 +48,20 @@ still_known c [] (y ∷ ys) same h = absurd same
 still_known c (x ∷ xs) [] same h = tt
 still_known c (x ∷ xs) (y ∷ ys) same h = (λ r own. h.0 r (ap (λ rs. has rs r) (sym same.0.routers) ∙ own), still_known c xs ys same.1 h.1)
 
--- and keep their events and take back alike
-still_alike : (keeps : Bool) (cancel : Cancel) (xs ys : List Share) → AreSameShares xs ys → AllByRecursion (λ (t : Share). (t.shard.keeps ≡ keeps) × (t.shard.cancel ≡ cancel)) xs
-    → AllByRecursion (λ (t : Share). (t.shard.keeps ≡ keeps) × (t.shard.cancel ≡ cancel)) ys
-still_alike keeps cancel [] [] same h = tt
-still_alike keeps cancel [] (y ∷ ys) same h = absurd same
-still_alike keeps cancel (x ∷ xs) [] same h = tt
-still_alike keeps cancel (x ∷ xs) (y ∷ ys) same h = ((same.0.keeps ∙ h.0.0, same.0.cancel ∙ h.0.1), still_alike keeps cancel xs ys same.1 h.1)
+-- and retain their events and take back alike
+still_alike : (retains : Bool) (cancel : Cancel) (xs ys : List Share) → AreSameShares xs ys → AllByRecursion (λ (t : Share). (t.shard.retains ≡ retains) × (t.shard.cancel ≡ cancel)) xs
+    → AllByRecursion (λ (t : Share). (t.shard.retains ≡ retains) × (t.shard.cancel ≡ cancel)) ys
+still_alike retains cancel [] [] same h = tt
+still_alike retains cancel [] (y ∷ ys) same h = absurd same
+still_alike retains cancel (x ∷ xs) [] same h = tt
+still_alike retains cancel (x ∷ xs) (y ∷ ys) same h = ((same.0.retains ∙ h.0.0, same.0.cancel ∙ h.0.1), still_alike retains cancel xs ys same.1 h.1)
 
 -- ---- so the run goes on
 
-same_workers : (s : Sim) (y : Board) (shares : List Share) → IsSim s → IsWhole y shares → AreSameShares s.shares shares → workers y ≡ workers s.board
+same_workers : (s : Sim) (y : Board) (shares : List Share) → IsSim s → AreGoodTogether y shares → AreSameShares s.shares shares → workers y ≡ workers s.board
 same_workers s y shares is whole same = sym whole.ruled.count ∙ (as_long s.shares shares same ∙ is.ruled.count)
 
-pub still_sim : (s : Sim) (y : Board) (shares : List Share) → IsSim s → IsWhole y shares → AreSameShares s.shares shares → y.stop ≡ s.board.stop
+pub still_sim : (s : Sim) (y : Board) (shares : List Share) → IsSim s → AreGoodTogether y shares → AreSameShares s.shares shares → y.stop ≡ s.board.stop
     → IsSim (record { case = s.case; board = y; shares = shares })
 still_sim s y shares is whole same stop =
     let long = same_workers s y shares is whole same in
@@ -73,19 +73,19 @@ still_sim s y shares is whole same stop =
       ruled = subst (λ c. IsRuled c y shares) case whole.ruled;
       known = still_known s.case s.shares shares same is.known;
       alike = record {
-        keeps = is.alike.keeps;
+        retains = is.alike.retains;
         cancel = is.alike.cancel;
-        each = still_alike is.alike.keeps is.alike.cancel s.shares shares same is.alike.each;
+        each = still_alike is.alike.retains is.alike.cancel s.shares shares same is.alike.each;
       };
       stop = (let n = is.stop in omega (arith, n, stop));
     }
 
-pub goes_on : (s : Sim) (y : Board) (shares : List Share) → IsSim s → IsWhole y shares → AreSameShares s.shares shares → s.board.bound ≤ y.bound
+pub goes_on : (s : Sim) (y : Board) (shares : List Share) → IsSim s → AreGoodTogether y shares → AreSameShares s.shares shares → s.board.bound ≤ y.bound
     → GoesOn s (record { case = s.case; board = y; shares = shares })
 goes_on s y shares is whole same bound = record {
   case = refl;
   workers = same_workers s y shares is whole same;
-  keeps = still_keep s.shares shares same;
+  retains = still_retain s.shares shares same;
   cancels = same_map (λ (t : Shard). t.cancel) (λ t u is. is.cancel) s.shares shares same;
   bound = bound;
 }
@@ -94,7 +94,7 @@ pub goes_on_both : (s t u : Sim) → GoesOn s t → GoesOn t u → GoesOn s u
 goes_on_both s t u one two = record {
   case = two.case ∙ one.case;
   workers = two.workers ∙ one.workers;
-  keeps = λ all. two.keeps (one.keeps all);
+  retains = λ all. two.retains (one.retains all);
   cancels = two.cancels ∙ one.cancels;
   bound = (let a = one.bound in let b = two.bound in omega (arith, a, b));
 }

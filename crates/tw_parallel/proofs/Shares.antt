@@ -35,11 +35,11 @@ worker_there from (suc n) zero (x ∷ ts) t order there =
 worker_there from (suc n) (suc k) (x ∷ ts) t order there =
     let more = worker_there (from + 1) n k ts t (ap (drop 1) order) there in omega arith
 
--- shards that keep their events, with a hand each
-pub all_keep : (ss : List Shard) (hs : List Hand) → ((k : ℕ) → k < length ss → (get_or ss k no_shard).keeps ≡ true) → AllByRecursion (λ (t : Share). t.shard.keeps ≡ true) (shares_of ss hs)
-all_keep [] hs each = tt
-all_keep (s ∷ ss) [] each = tt
-all_keep (s ∷ ss) (h ∷ hs) each = (each 0 (omega arith), all_keep ss hs (λ k l. each (suc k) (omega arith)))
+-- shards that retain their events, with a hand each
+pub all_retain : (ss : List Shard) (hs : List Hand) → ((k : ℕ) → k < length ss → (get_or ss k no_shard).retains ≡ true) → AllByRecursion (λ (t : Share). t.shard.retains ≡ true) (shares_of ss hs)
+all_retain [] hs each = tt
+all_retain (s ∷ ss) [] each = tt
+all_retain (s ∷ ss) (h ∷ hs) each = (each 0 (omega arith), all_retain ss hs (λ k l. each (suc k) (omega arith)))
 
 -- shards that take back at this time, with a hand each
 pub all_take : (cancel : Cancel) (ss : List Shard) (hs : List Hand) → length hs ≡ length ss → ((k : ℕ) → k < length ss → (get_or ss k no_shard).cancel ≡ cancel)
@@ -49,12 +49,12 @@ all_take cancel (s ∷ ss) [] same each = absurd (omega arith)
 all_take cancel (s ∷ ss) (h ∷ hs) same each =
     λ i. each 0 (omega arith) i ∷ all_take cancel ss hs (omega arith) (λ k l. each (suc k) (omega arith)) i
 
--- all of them keep their events where each shard does
-pub keep_all : (ss : List Shard) (hs : List Hand) → length hs ≡ length ss → (list_all (λ (s : Shard). s.keeps) ss ≡ true) ↔ AllByRecursion (λ (t : Share). t.shard.keeps ≡ true) (shares_of ss hs)
-keep_all [] hs same = ((λ h. tt), (λ h. refl))
-keep_all (s ∷ ss) [] same = absurd (omega arith)
-keep_all (s ∷ ss) (h ∷ hs) same =
-    let more = keep_all ss hs (omega arith) in (
-      λ all. (let parts = and_parts s.keeps (list_all (λ (s : Shard). s.keeps) ss) all in (parts.0, more.0 parts.1)),
+-- all of them retain their events where each shard does
+pub retain_all : (ss : List Shard) (hs : List Hand) → length hs ≡ length ss → (list_all (λ (s : Shard). s.retains) ss ≡ true) ↔ AllByRecursion (λ (t : Share). t.shard.retains ≡ true) (shares_of ss hs)
+retain_all [] hs same = ((λ h. tt), (λ h. refl))
+retain_all (s ∷ ss) [] same = absurd (omega arith)
+retain_all (s ∷ ss) (h ∷ hs) same =
+    let more = retain_all ss hs (omega arith) in (
+      λ all. (let parts = and_parts s.retains (list_all (λ (s : Shard). s.retains) ss) all in (parts.0, more.0 parts.1)),
       λ each. rw each.0 (more.1 each.1),
     )

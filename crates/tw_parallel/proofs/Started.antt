@@ -10,14 +10,14 @@ use Rattle.tw_model.proofs.Lawful.{lawful}
 use Rattle.tw_model.specs.Case.{Case, IsCase, simulation}
 use Rattle.tw_model.specs.declared.limits.TheConstants.{LATEST}
 use Rattle.tw_parallel.proofs.Coming.{closed_at, fit_below, fit_long}
-use Rattle.tw_parallel.proofs.Cuts.{cancels_at, exchange_at, keeps_at, settled_at, shares_at, sim_at}
+use Rattle.tw_parallel.proofs.Cuts.{cancels_at, exchange_at, retains_at, settled_at, shares_at, sim_at}
 use Rattle.tw_parallel.proofs.Shares.{long_shares}
 use Rattle.tw_parallel.specs.Cut.{AreSharesAt, IsExchangeAt, StandAt}
 use Rattle.tw_parallel.specs.Hands.{IsEmptyHand}
 use Rattle.tw_parallel.specs.Moving.{fit}
 use Rattle.tw_parallel.specs.Sim.{Sim, cancels_of}
 use Rattle.tw_parallel.specs.declared.vacancy.Vacancy.{Vacancy}
-use Rattle.tw_parallel.specs.Vacancy.{AreVacant, IsClosed, IsStarted, IsVacancy, Start, no_vacant, owner_in, start_from, start_of}
+use Rattle.tw_parallel.specs.Vacancy.{AreVacant, IsFilled, IsTakenOver, IsVacancy, Start, no_vacant, owner_in, start_from, start_of}
 use Rattle.tw_seq.specs.Run.{IsBegun, Run}
 use Rattle.tw_shard.specs.Cut.{IsShardAt}
 use Rattle.tw_shard.specs.Shard.{Shard, no_shard}
@@ -30,15 +30,15 @@ use Rattle.tw_sim.specs.Seq.{begin}
 use Rattle.tw_table.specs.declared.hand.Hand.{Hand}
 use Rattle.tw_table.specs.Shares.{Share, shares_of}
 
--- shares that keep their events were opened to
-first_keeps : (case : Case) (whose : ℕ → ℕ) (time k : ℕ) (keeps : Bool) (cancel : Cancel) (ts : List Share) → 0 < length ts → AreSharesAt case whose time k keeps cancel ts
-    → AllByRecursion (λ (t : Share). t.shard.keeps ≡ true) ts → keeps ≡ true
-first_keeps case whose time k keeps cancel [] some at all = absurd (omega arith)
-first_keeps case whose time k keeps cancel (t ∷ ts) some at all = sym at.0.shard.keeps_are ∙ all.0
+-- shares that retain their events were opened to
+first_retains : (case : Case) (whose : ℕ → ℕ) (time k : ℕ) (retains : Bool) (cancel : Cancel) (ts : List Share) → 0 < length ts → AreSharesAt case whose time k retains cancel ts
+    → AllByRecursion (λ (t : Share). t.shard.retains ≡ true) ts → retains ≡ true
+first_retains case whose time k retains cancel [] some at all = absurd (omega arith)
+first_retains case whose time k retains cancel (t ∷ ts) some at all = sym at.0.shard.retains_are ∙ all.0
 
 module _ (s : Start) (is : IsCase s.case) (some : 0 < s.workers) (fits : fit s.case.net.nodes s.workers s.owners ≡ true) (most : s.time ≤ LATEST)
     (ss : List Shard) (hs : List Hand) (count : length ss ≡ s.workers) (same : length hs ≡ length ss) (empty : AllByRecursion IsEmptyHand hs)
-    (closed : (k : ℕ) → k < length ss → IsShardAt s.case (owner_in s) s.time k s.keeps s.cancel (get_or ss k no_shard)) where
+    (closed : (k : ℕ) → k < length ss → IsShardAt s.case (owner_in s) s.time k s.retains s.cancel (get_or ss k no_shard)) where
   -- the exchange as it opens
   abbrev board : Board
   board = opening_owned s.owners s.workers s.time s.time
@@ -59,35 +59,35 @@ module _ (s : Start) (is : IsCase s.case) (some : 0 < s.workers) (fits : fit s.c
   long : length shares ≡ s.workers
   long = long_shares ss hs same ∙ count
 
-  stand : StandAt s.case s.time s.keeps s.cancel board shares
+  stand : StandAt s.case s.time s.retains s.cancel board shares
   stand = record {
     is_case = is;
     exchange = subst (λ n. IsExchangeAt n s.time board) (sym long) (exchange_at s.workers s.time s.time (Some s.owners) (omega arith));
-    each = subst (λ w. AreSharesAt s.case w s.time 0 s.keeps s.cancel shares) (sym whose)
-        (shares_at s.case is (owner_in s) s.time s.keeps s.cancel 0 ss hs same
-        (λ j within. subst (λ k. IsShardAt s.case (owner_in s) s.time k s.keeps s.cancel (get_or ss j no_shard)) (omega arith) (closed j within)) empty);
+    each = subst (λ w. AreSharesAt s.case w s.time 0 s.retains s.cancel shares) (sym whose)
+        (shares_at s.case is (owner_in s) s.time s.retains s.cancel 0 ss hs same
+        (λ j within. subst (λ k. IsShardAt s.case (owner_in s) s.time k s.retains s.cancel (get_or ss j no_shard)) (omega arith) (closed j within)) empty);
     routers = λ r known. (
         let below = fit_below s.case.net.nodes s.workers s.owners r (workers board) fits known in
         let all = long in
         omega arith);
   }
 
-  pub is_started : IsStarted s started
+  pub is_started : IsTakenOver s started
   is_started =
       let all = long in
       let within : 0 < length shares = omega arith in
       record {
-        sim = sim_at s.case s.time s.keeps s.cancel board shares stand within most;
-        settled = settled_at s.case s.time s.keeps s.cancel board shares stand refl;
+        sim = sim_at s.case s.time s.retains s.cancel board shares stand within most;
+        settled = settled_at s.case s.time s.retains s.cancel board shares stand refl;
         case = refl;
         stop = refl;
         workers_are = many;
         owners = λ r known. (let n = fit_long s.case.net.nodes s.workers s.owners fits in slice_get-get_or s.owners r (workers board) (omega arith));
-        keeps = (
-          λ all_do. keeps_at s.case is (who board) s.time s.keeps s.cancel 0 shares all_do stand.each,
-          λ all_do. first_keeps s.case (who board) s.time 0 s.keeps s.cancel shares within stand.each all_do,
+        retains = (
+          λ all_do. retains_at s.case is (who board) s.time s.retains s.cancel 0 shares all_do stand.each,
+          λ all_do. first_retains s.case (who board) s.time 0 s.retains s.cancel shares within stand.each all_do,
         );
-        cancels = cancels_at s.case is (who board) s.time s.keeps s.cancel 0 shares stand.each ∙ ap (λ n. replicate n s.cancel) long;
+        cancels = cancels_at s.case is (who board) s.time s.retains s.cancel 0 shares stand.each ∙ ap (λ n. replicate n s.cancel) long;
       }
 
 abbrev pub with : List Shard → List Hand → Case → Board → Sim
@@ -97,8 +97,8 @@ with ss hs case board = record { case = case; board = board; shares = shares_of 
 pub started_of : (v : Vacancy) (owners : List ℕ) → IsVacancy v → 0 < (start_of v).workers → owners ≡ (start_of v).owners
     → fit (start_of v).case.net.nodes (start_of v).workers owners ≡ true
     → (vs : List Vacant) → AreVacant (start_from owners v.vacant.items) (start_of v).case.net.nodes vs
-    → (ss : List Shard) → length ss ≡ length vs → ((k : ℕ) → k < length ss → IsClosed (get_or vs k no_vacant) (get_or ss k no_shard))
-    → IsStarted (start_of v) (with ss v.hands.items v.case.now v.exchange) × (length v.hands.items ≡ length ss)
+    → (ss : List Shard) → length ss ≡ length vs → ((k : ℕ) → k < length ss → IsFilled (get_or vs k no_vacant) (get_or ss k no_shard))
+    → IsTakenOver (start_of v) (with ss v.hands.items v.case.now v.exchange) × (length v.hands.items ≡ length ss)
 started_of v owners is some listed fits vs come ss long closed =
     let s = start_of v in
     let vacant : AreVacant s s.case.net.nodes vs = subst (λ os. AreVacant (start_from os v.vacant.items) s.case.net.nodes vs) listed come in
@@ -108,7 +108,7 @@ started_of v owners is some listed fits vs come ss long closed =
     let at = is_started s (subst IsCase is.whose is.case) some fit_here is.most ss v.hands.items count same is.empty (closed_at s vs ss vacant long closed) in
     let case : s.case ≡ v.case.now = sym is.whose in
     let board : opening_owned s.owners s.workers s.time s.time ≡ v.exchange = sym is.board in
-    (subst (λ c. IsStarted s (with ss v.hands.items c v.exchange)) case (subst (λ x. IsStarted s (with ss v.hands.items s.case x)) board at), same)
+    (subst (λ c. IsTakenOver s (with ss v.hands.items c v.exchange)) case (subst (λ x. IsTakenOver s (with ss v.hands.items s.case x)) board at), same)
 
 -- what waits for a run on one thread is in the order of events
 pub in_order : (run : Run) → IsBegun run → insert_all event_before run.pending [] ≡ run.pending

@@ -12,20 +12,20 @@ abbrev pub IsExchangeAt : ℕ → ℕ → Board → Type 0
 IsExchangeAt n time x = IsCutBoard n time (board_of x)
 
 -- worker k's share: its shard, and an empty hand
-pub record IsShareAt (case : Case) (who : ℕ → ℕ) (time k : ℕ) (keeps : Bool) (cancel : Cancel) (t : Share) : Type 0 where
-  pub shard : IsShardAt case who time k keeps cancel t.shard
+pub record IsShareAt (case : Case) (who : ℕ → ℕ) (time k : ℕ) (retains : Bool) (cancel : Cancel) (t : Share) : Type 0 where
+  pub shard : IsShardAt case who time k retains cancel t.shard
   pub mail : t.mail ≡ []
   pub unsent : t.unsent ≡ []
 
 -- those of the workers from k on
 abbrev pub AreSharesAt : Case → (ℕ → ℕ) → ℕ → ℕ → Bool → Cancel → List Share → Type 0
-AreSharesAt case who time k keeps cancel [] = Unit {0}
-AreSharesAt case who time k keeps cancel (t ∷ shares) = IsShareAt case who time k keeps cancel t × AreSharesAt case who time (suc k) keeps cancel shares
+AreSharesAt case who time k retains cancel [] = Unit {0}
+AreSharesAt case who time k retains cancel (t ∷ shares) = IsShareAt case who time k retains cancel t × AreSharesAt case who time (suc k) retains cancel shares
 
 -- an exchange and the shares of all workers stand at that time of the run
-pub record StandAt (case : Case) (time : ℕ) (keeps : Bool) (cancel : Cancel) (x : Board) (shares : List Share) : Type 0 where
+pub record StandAt (case : Case) (time : ℕ) (retains : Bool) (cancel : Cancel) (x : Board) (shares : List Share) : Type 0 where
   pub is_case : IsCase case
   pub exchange : IsExchangeAt (length shares) time x
-  pub each : AreSharesAt case (who x) time 0 keeps cancel shares
+  pub each : AreSharesAt case (who x) time 0 retains cancel shares
   -- each router of the case has one of the workers
   pub routers : (r : ℕ) → r < case.net.nodes → who x r < length shares

@@ -6,7 +6,7 @@ use Rattle.tw_exchange.specs.Board.{Board, IsListed, is_to, is_to_another, who, 
 use Rattle.tw_model.specs.Case.{simulation}
 use Rattle.tw_parallel.specs.declared.moving.UnfitOwners.{UnfitOwners}
 use Rattle.tw_parallel.specs.Sim.{GoesOn, Sim, machine}
-use Rattle.tw_shard.specs.Moving.{HasCome, HasLeft}
+use Rattle.tw_shard.specs.Moving.{HasMovedIn, HasMovedOut}
 use Rattle.tw_shard.specs.Shard.{Shard, no_shard, owns}
 use Rattle.tw_table.specs.declared.hand.Hand.{Hand}
 use Rattle.tw_table.specs.Moving.{HasMoved, waiting}
@@ -32,10 +32,10 @@ AreOldOrNamed owners s t = (r : ℕ) → r < s.case.net.nodes → (who t.board r
 abbrev pub AreListed : Sim → Type 0
 AreListed s = (r : ℕ) → r < s.case.net.nodes → IsListed r s.board
 
--- two shards of one case, which keep their events alike and take back at the same time
+-- two shards of one case, which retain their events alike and take back at the same time
 pub record AreLike (s t : Shard) : Type 0 where
   pub case : t.case ≡ s.case
-  pub keeps : t.keeps ≡ s.keeps
+  pub retains : t.retains ≡ s.retains
   pub cancel : t.cancel ≡ s.cancel
 
 -- router r may go from the shard at one place to that at another, which does not have it
@@ -46,8 +46,8 @@ pub record MayPass (r from to : ℕ) (ss : List Shard) : Type 0 where
 
 -- it has gone there, and the other shards stay
 pub record HasPassed (r from to : ℕ) (ss later : List Shard) : Type 0 where
-  pub left : HasLeft r (slice_index_or ss from no_shard) (slice_index_or later from no_shard)
-  pub came : HasCome r (slice_index_or ss from no_shard) (slice_index_or ss to no_shard) (slice_index_or later to no_shard)
+  pub left : HasMovedOut r (slice_index_or ss from no_shard) (slice_index_or later from no_shard)
+  pub came : HasMovedIn r (slice_index_or ss from no_shard) (slice_index_or ss to no_shard) (slice_index_or later to no_shard)
   pub rest : later ≡ slice_set (slice_set ss from (slice_index_or later from no_shard)) to (slice_index_or later to no_shard)
 
 -- a hand has room for all mail of another

@@ -28,11 +28,11 @@ machine s = assembled (board_of s.board) (map place_of s.shares)
 abbrev pub AreOf : Case → Share → Type 0
 AreOf case t = (r : ℕ) → owns t.shard r ≡ true → r < case.net.nodes
 
--- the routers of all shares keep their events or none does, and what undone events have sent is taken back at the same time
-pub record AreAlike (shares : List Share) : Type 0 where
-  pub keeps : Bool
+-- the routers of all shares retain their events or none does, and what undone events have sent is taken back at the same time
+pub record AreSetAlike (shares : List Share) : Type 0 where
+  pub retains : Bool
   pub cancel : Cancel
-  pub each : AllByRecursion (λ t. (t.shard.keeps ≡ keeps) × (t.shard.cancel ≡ cancel)) shares
+  pub each : AllByRecursion (λ t. (t.shard.retains ≡ retains) × (t.shard.cancel ≡ cancel)) shares
 
 -- it keeps the rule
 pub record IsSim (s : Sim) : Type 0 where
@@ -43,14 +43,14 @@ pub record IsSim (s : Sim) : Type 0 where
   pub ruled : IsRuled s.case s.board s.shares
   -- of routers of the case alone
   pub known : AllByRecursion (AreOf s.case) s.shares
-  -- whose routers keep their events alike, and take back at the same time what undone events have sent
-  pub alike : AreAlike s.shares
+  -- whose routers retain their events alike, and take back at the same time what undone events have sent
+  pub alike : AreSetAlike s.shares
   -- the stop is one that a case may have
   pub stop : s.board.stop ≤ LATEST
 
--- all routers keep their committed events
-abbrev pub KeepsEvents : Sim → Type 0
-KeepsEvents s = AllByRecursion (λ t. t.shard.keeps ≡ true) s.shares
+-- all routers retain their committed events
+abbrev pub RetainsEvents : Sim → Type 0
+RetainsEvents s = AllByRecursion (λ t. t.shard.retains ≡ true) s.shares
 
 -- when each worker takes back what undone events have sent
 abbrev pub cancels_of : Sim → List Cancel
@@ -64,12 +64,12 @@ committed_events s = insert_all event_before (flat_map (λ r. committed (simulat
 abbrev pub reopened : ℕ → Sim → Sim
 reopened stop s = record s { board = record s.board { stop = stop; halted = false } }
 
--- the run later: of the same case, with as many workers, whose routers keep their events if they did and take back what undone events
+-- the run later: of the same case, with as many workers, whose routers retain their events if they did and take back what undone events
 -- have sent as before, its bound not fallen
 pub record GoesOn (s t : Sim) : Type 0 where
   pub case : t.case ≡ s.case
   pub workers : workers t.board ≡ workers s.board
-  pub keeps : KeepsEvents s → KeepsEvents t
+  pub retains : RetainsEvents s → RetainsEvents t
   pub cancels : cancels_of t ≡ cancels_of s
   pub bound : s.board.bound ≤ t.board.bound
 

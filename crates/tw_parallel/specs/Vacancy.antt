@@ -8,7 +8,7 @@ use Rattle.tw_model.specs.declared.limits.TheConstants.{LATEST}
 use Rattle.tw_parallel.specs.declared.vacancy.Vacancy.{Vacancy}
 use Rattle.tw_parallel.specs.Hands.{IsEmptyHand}
 use Rattle.tw_parallel.specs.Settled.{IsSettled}
-use Rattle.tw_parallel.specs.Sim.{IsSim, KeepsEvents, Sim, cancels_of}
+use Rattle.tw_parallel.specs.Sim.{IsSim, RetainsEvents, Sim, cancels_of}
 use Rattle.tw_shard.specs.Cut.{IsShardAt}
 use Rattle.tw_shard.specs.Shard.{Shard}
 use Rattle.tw_shard.specs.Vacant.{Vacant}
@@ -21,7 +21,7 @@ pub record Start : Type 0 where
   pub owners : List ℕ
   pub workers : ℕ
   pub time : ℕ
-  pub keeps : Bool
+  pub retains : Bool
   pub cancel : Cancel
 
 -- the worker of a router
@@ -30,7 +30,7 @@ owner_in s r = slice_index_or s.owners r s.workers
 
 -- what stands where there is none
 abbrev pub no_vacant : Vacant
-no_vacant = record { case = no_case; worker = 0; workers = 0; time = 0; keeps = true; cancel = Aggressive; routers = []; missing = [] }
+no_vacant = record { case = no_case; worker = 0; workers = 0; time = 0; retains = true; cancel = Aggressive; routers = []; missing = [] }
 
 -- worker w's shard, whose routers from this one on have not come
 abbrev pub vacant_from : Start → ℕ → ℕ → Vacant
@@ -39,7 +39,7 @@ vacant_from s from w = record {
   worker = w;
   workers = s.workers;
   time = s.time;
-  keeps = s.keeps;
+  retains = s.retains;
   cancel = s.cancel;
   routers = filter (λ r. owner_in s r == w) (range_with_len 0 s.case.net.nodes);
   missing = filter (λ r. owner_in s r == w) (range_with_len from (s.case.net.nodes - from));
@@ -54,14 +54,14 @@ pub record AreVacant (s : Start) (from : ℕ) (shards : List Vacant) : Type 0 wh
 abbrev pub start_from : List ℕ → List Vacant → Start
 start_from owners shards =
     let first = slice_index_or shards 0 no_vacant in
-    record { case = first.case; owners = owners; workers = first.workers; time = first.time; keeps = first.keeps; cancel = first.cancel }
+    record { case = first.case; owners = owners; workers = first.workers; time = first.time; retains = first.retains; cancel = first.cancel }
 
 abbrev pub start_of : Vacancy → Start
 start_of v = start_from (unwrap_or v.exchange.owners []) v.vacant.items
 
 -- a shard all of whose routers have come
-abbrev pub IsClosed : Vacant → Shard → Type 0
-IsClosed v s = (who : ℕ → ℕ) → v.routers ≡ filter (λ r. who r == v.worker) (range_with_len 0 v.case.net.nodes) → IsShardAt v.case who v.time v.worker v.keeps v.cancel s
+abbrev pub IsFilled : Vacant → Shard → Type 0
+IsFilled v s = (who : ℕ → ℕ) → v.routers ≡ filter (λ r. who r == v.worker) (range_with_len 0 v.case.net.nodes) → IsShardAt v.case who v.time v.worker v.retains v.cancel s
 
 -- there is all but the routers, and room for these
 pub record IsVacancy (v : Vacancy) : Type 0 where
@@ -76,7 +76,7 @@ pub record IsVacancy (v : Vacancy) : Type 0 where
   pub empty : AllByRecursion IsEmptyHand v.hands.items
 
 -- a parallel run that stands where its workers have taken over
-pub record IsStarted (start : Start) (s : Sim) : Type 0 where
+pub record IsTakenOver (start : Start) (s : Sim) : Type 0 where
   pub sim : IsSim s
   pub settled : IsSettled s
   pub case : s.case ≡ start.case
@@ -84,5 +84,5 @@ pub record IsStarted (start : Start) (s : Sim) : Type 0 where
   pub workers_are : workers s.board ≡ start.workers
   -- each router is its worker's
   pub owners : (r : ℕ) → r < s.case.net.nodes → slice_get start.owners r ≡ Some (who s.board r)
-  pub keeps : (start.keeps ≡ true) ↔ KeepsEvents s
+  pub retains : (start.retains ≡ true) ↔ RetainsEvents s
   pub cancels : cancels_of s ≡ replicate start.workers start.cancel

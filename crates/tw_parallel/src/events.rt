@@ -6,7 +6,7 @@ ghost use Rattle.tw_core.specs.Run.{IsSeq};
 ghost use Rattle.tw_event.specs.Order.{event_before};
 ghost use Rattle.tw_model.specs.Case.{simulation};
 ghost use Rattle.tw_parallel.specs.Settled.{ahead_of};
-ghost use Rattle.tw_parallel.specs.Sim.{KeepsEvents, committed_events, machine};
+ghost use Rattle.tw_parallel.specs.Sim.{RetainsEvents, committed_events, machine};
 ghost use Rattle.tw_sim.specs.Ordered.{insert_all};
 
 use crate::sim::Sim;
@@ -15,9 +15,9 @@ use tw_event::Event;
 use tw_shard::shards::{committed_events, count_ahead, pending_events};
 
 impl Sim<'_> {
-    /// The committed events of all routers, in their order, where these are kept.
+    /// The committed events of all routers, in their order, where these are retained.
     pub fn committed(&self) -> Result<Vec<Event>, AllocError>
-        requires { KeepsEvents self.now }
+        requires { RetainsEvents self.now }
         ensures value { IfOk result (λ v. v.items ≡ committed_events self.now) }
         ensures seq { IsSeq (simulation self.now.case) (machine self.now) }
     {

@@ -6,12 +6,12 @@ ghost use Rattle.tw_event.specs.Order.{event_before};
 ghost use Rattle.tw_exchange.specs.Board.{who, workers};
 ghost use Rattle.tw_model.specs.Case.{Case as ACase, IsCase};
 ghost use Rattle.tw_model.specs.declared.memory.OrMemory.TheVariants as or_memory;
-ghost use Rattle.tw_parallel.specs.Removal.{HaveLeft, IsRoomFor, MayLeave};
+ghost use Rattle.tw_parallel.specs.Removal.{AreRemoved, IsRoomFor, MayLeave};
 ghost use Rattle.tw_parallel.specs.Settled.{HasNoRecords, IsSettled, not_settled};
-ghost use Rattle.tw_parallel.specs.Sim.{IsSim, KeepsEvents};
+ghost use Rattle.tw_parallel.specs.Sim.{IsSim, RetainsEvents};
 ghost use Rattle.tw_ordered.specs.Queue.{AreFor};
 ghost use Rattle.tw_seq.specs.Run.{complete_run};
-ghost use Rattle.tw_seq.specs.Traced.{kept};
+ghost use Rattle.tw_seq.specs.Traced.{retained};
 ghost use Rattle.tw_shard.specs.Shard.{no_shard};
 ghost use Rattle.tw_sim.specs.Ordered.{insert_all};
 
@@ -45,7 +45,7 @@ impl<'a> Sim<'a> {
     /// refusal and for want of memory the run comes back as it was.
     pub fn into_run(self) -> Result<TracedRun<'a>, StillParallel<'a>>
         ensures run { IfOk result (λ run. run.run ≡ complete_run self.entry.case self.entry.board.stop) }
-        ensures keeps { IfOk result (λ run. (run.keeps ≡ true) ↔ KeepsEvents self.entry) }
+        ensures retains { IfOk result (λ run. (run.retains ≡ true) ↔ RetainsEvents self.entry) }
         ensures refused { IsErrAnd result (λ still. still.why ≡ or_memory.Fault not_settled) ↔ (IsSettled self.entry × HasNoRecords self.entry → ⊥) }
         ensures back { IfErr result (λ still. still.sim ≡ self.entry) }
     {
@@ -104,7 +104,7 @@ impl<'a> RunRoom<'a> {
     {
         let alloc = *sim.shards.allocator();
         let nodes = sim.case.instance().nodes();
-        let removal = room_for_routers(alloc, nodes as usize, sim.keeps_events())?;
+        let removal = room_for_routers(alloc, nodes as usize, sim.retains_events())?;
         let waiting = sim.pending()?;
         let pending = event_list(alloc, nodes, &waiting)?;
         Ok(RunRoom {
@@ -115,12 +115,16 @@ impl<'a> RunRoom<'a> {
     }
 }
 
-/// Room for so many routers, and for their events, where these are kept.
-fn room_for_routers<'a>(alloc: Global, count: usize, keeps: bool) -> Result<Removal<'a>, AllocError>
-    ensures none { (case : ACase) (time : ℕ) → IfOk result (λ removal. HaveLeft case time count 0 removal) }
-    ensures keeps { IfOk result (λ removal. is_some removal.logs ≡ keeps) }
+/// Room for so many routers, and for their events, where these are retained.
+fn room_for_routers<'a>(
+    alloc: Global,
+    count: usize,
+    retains: bool,
+) -> Result<Removal<'a>, AllocError>
+    ensures none { (case : ACase) (time : ℕ) → IfOk result (λ removal. AreRemoved case time count 0 removal) }
+    ensures retains { IfOk result (λ removal. is_some removal.logs ≡ retains) }
 {
-    let logs = if keeps {
+    let logs = if retains {
         Some(Vec::with_capacity(alloc, count)?)
     } else {
         None
@@ -151,7 +155,7 @@ fn move_out<'a>(sim: Sim<'a>, room: RunRoom<'a>) -> TracedRun<'a>
     requires records { HasNoRecords sim }
     requires room { IsRoomFor sim room }
     ensures run { result.run ≡ complete_run sim.entry.case sim.entry.board.stop }
-    ensures keeps { (result.keeps ≡ true) ↔ KeepsEvents sim.entry }
+    ensures retains { (result.retains ≡ true) ↔ RetainsEvents sim.entry }
 {
     let Parts {
         case,
@@ -182,13 +186,13 @@ fn take_out<'a>(
     removal: Removal<'a>,
 ) -> Removal<'a>
     requires case { IsCase case.now }
-    requires none { HaveLeft case.now exchange.now.stop case.now.net.nodes 0 removal }
+    requires none { AreRemoved case.now exchange.now.stop case.now.net.nodes 0 removal }
     requires homes { (r : ℕ) → r < case.now.net.nodes → who exchange.now r < length shards.items }
     requires workers { length shards.items ≡ workers exchange.now }
     requires each { (r : ℕ) → r < case.now.net.nodes
         → MayLeave case.now exchange.now.stop r (is_some removal.logs) (slice_index_or shards.items (who exchange.now r) no_shard) }
-    ensures left { HaveLeft case.now exchange.now.stop case.now.net.nodes case.now.net.nodes result }
-    ensures keeps { is_some result.logs ≡ is_some removal.entry.logs }
+    ensures left { AreRemoved case.now exchange.now.stop case.now.net.nodes case.now.net.nodes result }
+    ensures retains { is_some result.logs ≡ is_some removal.entry.logs }
 {
     let mut shards = shards;
     let mut removal = removal;
@@ -209,7 +213,7 @@ fn add<'a>(removal: &mut Removal<'a>, router: RouterAt<'a>)
     requires logs { IfSome removal.old.logs (λ logs. vec_len logs < vec_capacity logs) }
     ensures routers { removal.new.routers.items ≡ removal.old.routers.items ++ router.entry.router ∷ [] }
     ensures traces { removal.new.traces.items ≡ removal.old.traces.items ++ record { newest = router.entry.newest; change = router.entry.last_change } ∷ [] }
-    ensures logs { kept removal.new.logs ≡ option_map (λ lists. lists ++ router.entry.events.items ∷ []) (kept removal.old.logs) }
+    ensures logs { retained removal.new.logs ≡ option_map (λ lists. lists ++ router.entry.events.items ∷ []) (retained removal.old.logs) }
     ensures router_room { vec_capacity removal.new.routers ≡ vec_capacity removal.old.routers }
     ensures trace_room { vec_capacity removal.new.traces ≡ vec_capacity removal.old.traces }
     ensures log_room { option_map (λ logs. vec_capacity logs) removal.new.logs ≡ option_map (λ logs. vec_capacity logs) removal.old.logs }

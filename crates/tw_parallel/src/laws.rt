@@ -17,12 +17,12 @@ ghost use Rattle.tw_table.specs.Shares.{IsRuled, Share};
 /// run whose machine stands at that cut; and it is settled where the stop is that time. So the one-thread run
 /// may be given to workers at any time, as it stands.
 pub fn at_a_cut()
-    ensures rule { (case : Case) (time : ℕ) (keeps : Bool) (cancel : Cancel) (x : Board) (shares : List Share) → StandAt case time keeps cancel x shares → IsRuled case x shares }
-    ensures sim { (case : Case) (time : ℕ) (keeps : Bool) (cancel : Cancel) (x : Board) (shares : List Share) → StandAt case time keeps cancel x shares → 0 < length shares
+    ensures rule { (case : Case) (time : ℕ) (retains : Bool) (cancel : Cancel) (x : Board) (shares : List Share) → StandAt case time retains cancel x shares → IsRuled case x shares }
+    ensures sim { (case : Case) (time : ℕ) (retains : Bool) (cancel : Cancel) (x : Board) (shares : List Share) → StandAt case time retains cancel x shares → 0 < length shares
         → x.stop ≤ LATEST → IsSim (record { case = case; board = x; shares = shares }) }
-    ensures cut { (case : Case) (time : ℕ) (keeps : Bool) (cancel : Cancel) (x : Board) (shares : List Share) → StandAt case time keeps cancel x shares
+    ensures cut { (case : Case) (time : ℕ) (retains : Bool) (cancel : Cancel) (x : Board) (shares : List Share) → StandAt case time retains cancel x shares
         → IsCut (simulation case) time (machine (record { case = case; board = x; shares = shares })) }
-    ensures settled { (case : Case) (time : ℕ) (keeps : Bool) (cancel : Cancel) (x : Board) (shares : List Share) → StandAt case time keeps cancel x shares → x.stop ≡ time
+    ensures settled { (case : Case) (time : ℕ) (retains : Bool) (cancel : Cancel) (x : Board) (shares : List Share) → StandAt case time retains cancel x shares → x.stop ≡ time
         → IsSettled (record { case = case; board = x; shares = shares }) }
 {}
 

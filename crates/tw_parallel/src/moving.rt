@@ -7,7 +7,7 @@ ghost use Rattle.tw_model.specs.Case.{simulation};
 ghost use Rattle.tw_model.specs.declared.memory.OrMemory.TheVariants as or_memory;
 ghost use Rattle.tw_parallel.specs.Moving.{AreEnds, AreLike, AreListed, AreOldOrNamed, HasHanded, HasMovedBetween, HasPassed, HasRoomFor, IsHanded, IsRearranged, MayPass, are_owners, fit, unfit_owners};
 ghost use Rattle.tw_parallel.specs.Sim.{GoesOn, IsSim, machine};
-ghost use Rattle.tw_shard.specs.Moving.{HasCome, HasLeft};
+ghost use Rattle.tw_shard.specs.Moving.{HasMovedIn, HasMovedOut};
 ghost use Rattle.tw_shard.specs.Shard.{owns};
 ghost use Rattle.tw_table.specs.declared.hand.Hand.{Hand as AHand};
 ghost use Rattle.tw_table.specs.Moving.{moved_board};
@@ -205,8 +205,8 @@ fn pass<'a>(from: &mut Shard<'a>, to: &mut Shard<'a>, router: u32) -> Result<(),
     requires like { AreLike from.old to.old }
     requires own { owns from.old router ≡ true }
     requires new { owns to.old router ≡ false }
-    ensures left { OnOk result (HasLeft router from.old from.new) }
-    ensures came { OnOk result (HasCome router from.old to.old to.new) }
+    ensures left { OnOk result (HasMovedOut router from.old from.new) }
+    ensures came { OnOk result (HasMovedIn router from.old to.old to.new) }
     ensures err { OnErr result (from.new ≡ from.old) }
     ensures none_came { OnErr result (to.new ≡ to.old) }
 {

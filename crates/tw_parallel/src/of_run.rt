@@ -6,7 +6,7 @@ ghost use Rattle.tw_exchange.specs.Board.{who, workers as worker_count};
 ghost use Rattle.tw_model.specs.declared.memory.OrMemory.TheVariants as or_memory;
 ghost use Rattle.tw_parallel.specs.Moving.{fit, unfit_owners};
 ghost use Rattle.tw_parallel.specs.Settled.{IsSettled};
-ghost use Rattle.tw_parallel.specs.Sim.{IsSim, KeepsEvents, cancels_of};
+ghost use Rattle.tw_parallel.specs.Sim.{IsSim, RetainsEvents, cancels_of};
 ghost use Rattle.tw_seq.specs.Run.{complete_run};
 
 use crate::moving::{UnfitOwners, are_fit};
@@ -28,7 +28,7 @@ pub struct StillAlone<'a> {
 
 impl<'a> Sim<'a> {
     /// A run on one thread that stands at its stop goes on from there by so many workers, each with the routers for
-    /// which the list names it. The routers keep their events if the run does. What an undone event has sent is taken
+    /// which the list names it. The routers retain their events if the run does. What an undone event has sent is taken
     /// back at once, or as late as may be. No router is copied.
     ///
     /// It is refused where the list has not one of the workers for each router. After a refusal and for want of memory
@@ -48,7 +48,7 @@ impl<'a> Sim<'a> {
         ensures stop { IfOk result (λ sim. sim.board.stop ≡ run.entry.run.stop) }
         ensures workers { IfOk result (λ sim. worker_count sim.board ≡ workers) }
         ensures owners { IfOk result (λ sim. (r : ℕ) → r < sim.case.net.nodes → slice_get owners.now r ≡ Some (who sim.board r)) }
-        ensures keeps { IfOk result (λ sim. (run.entry.keeps ≡ true) ↔ KeepsEvents sim) }
+        ensures retains { IfOk result (λ sim. (run.entry.retains ≡ true) ↔ RetainsEvents sim) }
         ensures cancels { IfOk result (λ sim. cancels_of sim ≡ replicate workers cancel) }
         ensures refused { IsErrAnd result (λ still. still.why ≡ or_memory.Fault unfit_owners) ↔ (fit run.entry.run.case.net.nodes workers owners.now ≡ false) }
         ensures back { IfErr result (λ still. still.run ≡ run.entry) }

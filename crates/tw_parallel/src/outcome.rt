@@ -6,7 +6,7 @@ ghost use Rattle.tw_model.specs.declared.memory.OrMemory.TheVariants as or_memor
 ghost use Rattle.tw_model.specs.Quiet.{last_change};
 ghost use Rattle.tw_model.specs.Summary.{end_of};
 ghost use Rattle.tw_parallel.specs.Settled.{IsSettled, change_of, logged, not_settled, states_at, states_of};
-ghost use Rattle.tw_parallel.specs.Sim.{IsSim, KeepsEvents, machine};
+ghost use Rattle.tw_parallel.specs.Sim.{IsSim, RetainsEvents, machine};
 ghost use Rattle.tw_shard.specs.Shards.{greatest};
 ghost use Rattle.tw_shape.specs.Shape.{bare, shape as shape_at};
 ghost use Rattle.tw_sim.specs.Seq.{log as run_log, rest};
@@ -67,7 +67,7 @@ impl Sim<'_> {
     /// one-thread run, whatever the number of workers. A run of which they are asked keeps them. It is refused
     /// where the run has not come to its stop.
     pub fn outcome(&self, log: bool) -> Result<Outcome, OrMemory<NotSettled>>
-        requires { log ≡ true → KeepsEvents self.now }
+        requires { log ≡ true → RetainsEvents self.now }
         ensures settled { OnOk result (IsSettled self.now) }
         ensures refused { IsErrOf result (or_memory.Fault not_settled) ↔ (IsSettled self.now → ⊥) }
         ensures stop { IfOk result (λ left. left.stop ≡ self.now.board.stop) }
@@ -89,7 +89,7 @@ impl Sim<'_> {
     /// What a run leaves that has come to its stop.
     fn settled_outcome(&self, log: bool) -> Result<Outcome, AllocError>
         requires settled { IsSettled self.now }
-        requires log { log ≡ true → KeepsEvents self.now }
+        requires log { log ≡ true → RetainsEvents self.now }
         ensures stop { IfOk result (λ left. left.stop ≡ self.now.board.stop) }
         ensures bound { IfOk result (λ left. left.bound ≡ self.now.board.stop) }
         ensures events { IfOk result (λ left. left.events.items ≡ logged log self.now.case self.now.board.stop) }

@@ -14,13 +14,13 @@ pub(crate) fn open_shards<'a>(
     alloc: Global,
     case: &'a Case,
     workers: u32,
-    keeps: bool,
+    retains: bool,
     cancel: Cancel,
 ) -> Result<Vec<Shard<'a>>, AllocError>
     ensures count { IfOk result (λ v. length v.items ≡ workers) }
-    ensures each { IfOk result (λ v. (k : ℕ) → k < workers → IsOpeningShard case.now k workers keeps cancel (slice_index_or v.items k no_shard)) }
+    ensures each { IfOk result (λ v. (k : ℕ) → k < workers → IsOpeningShard case.now k workers retains cancel (slice_index_or v.items k no_shard)) }
 {
-    let mut shards = open_all(alloc, case, workers, keeps, cancel)?;
+    let mut shards = open_all(alloc, case, workers, retains, cancel)?;
     order_by_time(&mut shards)?;
     Ok(shards)
 }

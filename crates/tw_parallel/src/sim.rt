@@ -3,11 +3,11 @@ ghost use Rattle.std.specs.Prelude.{◌≡◌, ◌↔◌, ◌<◌, ◌≤◌, tr
 ghost use Rattle.std.specs.List.{list_all};
 ghost use Rattle.tw_core.specs.Machine.{IsOpening};
 ghost use Rattle.tw_core.specs.Run.{IsSeq};
-ghost use Rattle.tw_exchange.specs.Board.{opening, workers};
+ghost use Rattle.tw_exchange.specs.Board.{new_board, workers};
 ghost use Rattle.tw_model.specs.Case.{simulation};
 ghost use Rattle.tw_model.specs.declared.limits.TheConstants.{LATEST};
 ghost use Rattle.tw_parallel.specs.Inside.{HasHands, sim_of_parts};
-ghost use Rattle.tw_parallel.specs.Sim.{IsSim, KeepsEvents, cancels_of, machine, reopened};
+ghost use Rattle.tw_parallel.specs.Sim.{IsSim, RetainsEvents, cancels_of, machine, reopened};
 ghost use Rattle.tw_sim.specs.declared.machine.Cancel.TheVariants.{Aggressive};
 ghost use Rattle.tw_sim.specs.Simulation.{state};
 
@@ -64,38 +64,38 @@ impl<'a> Sim<'a> {
         alloc: Global,
         case: &'a Case,
         workers: u32,
-        keeps: bool,
+        retains: bool,
     ) -> Result<Sim<'a>, AllocError>
         requires { 0 < workers }
         ensures case { IfOk result (λ sim. sim.case ≡ case.now) }
-        ensures board { IfOk result (λ sim. sim.board ≡ opening workers 0 0) }
+        ensures board { IfOk result (λ sim. sim.board ≡ new_board workers 0 0) }
         ensures opens { IfOk result (λ sim. IsOpening (simulation case.now) (machine sim)) }
-        ensures keeps { keeps ≡ true → IfOk result (λ sim. KeepsEvents sim) }
+        ensures retains { retains ≡ true → IfOk result (λ sim. RetainsEvents sim) }
         ensures cancels { IfOk result (λ sim. cancels_of sim ≡ replicate workers Aggressive) }
     {
-        Sim::open_with(alloc, case, workers, keeps, Cancel::Aggressive)
+        Sim::open_with(alloc, case, workers, retains, Cancel::Aggressive)
     }
 
     /// A case as it begins, with its routers dealt out to so many workers in turn: bound and stop are 0, and
-    /// nothing is handled. There is one worker at least. Routers keep their committed events, or let them go.
+    /// nothing is handled. There is one worker at least. Routers retain their committed events, or let them go.
     /// What an undone event has sent is taken back at once, or as late as may be. It fails for want of memory
     /// alone.
     pub fn open_with(
         alloc: Global,
         case: &'a Case,
         workers: u32,
-        keeps: bool,
+        retains: bool,
         cancel: Cancel,
     ) -> Result<Sim<'a>, AllocError>
         requires { 0 < workers }
         ensures case { IfOk result (λ sim. sim.case ≡ case.now) }
-        ensures board { IfOk result (λ sim. sim.board ≡ opening workers 0 0) }
+        ensures board { IfOk result (λ sim. sim.board ≡ new_board workers 0 0) }
         ensures opens { IfOk result (λ sim. IsOpening (simulation case.now) (machine sim)) }
-        ensures keeps { keeps ≡ true → IfOk result (λ sim. KeepsEvents sim) }
+        ensures retains { retains ≡ true → IfOk result (λ sim. RetainsEvents sim) }
         ensures cancels { IfOk result (λ sim. cancels_of sim ≡ replicate workers cancel) }
     {
         let exchange = Exchange::new(alloc, workers, 0, 0)?;
-        let shards = open_shards(alloc, case, workers, keeps, cancel)?;
+        let shards = open_shards(alloc, case, workers, retains, cancel)?;
         let hands = open_hands(alloc, workers)?;
         // What a case keeps is told by a read of it.
         let _ = case.instance();
@@ -189,11 +189,11 @@ impl<'a> Sim<'a> {
         self.exchange.workers()
     }
 
-    /// Whether all routers keep their committed events, so that these can be read.
-    pub fn keeps_events(&self) -> bool
-        ensures { IsTrue result ↔ KeepsEvents self.now }
+    /// Whether all routers retain their committed events, so that these can be read.
+    pub fn retains_events(&self) -> bool
+        ensures { IsTrue result ↔ RetainsEvents self.now }
     {
-        do_all_keep(&self.shards)
+        do_all_retain(&self.shards)
     }
 
     /// In how many ticks its workers have handled something, all together, each counted as a worker first came to
@@ -215,9 +215,9 @@ impl<'a> Sim<'a> {
     }
 }
 
-/// Whether the routers of all these shards keep their committed events.
-fn do_all_keep(shards: &[Shard<'_>]) -> bool
-    ensures { result ≡ list_all (λ s. s.keeps) shards.now }
+/// Whether the routers of all these shards retain their committed events.
+fn do_all_retain(shards: &[Shard<'_>]) -> bool
+    ensures { result ≡ list_all (λ s. s.retains) shards.now }
 {
-    shards.iter().all(|shard| shard.keeps())
+    shards.iter().all(|shard| shard.retains())
 }

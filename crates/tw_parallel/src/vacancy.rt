@@ -6,9 +6,9 @@ ghost use Rattle.tw_event.specs.Order.{event_before};
 ghost use Rattle.tw_exchange.specs.Board.{opening_owned};
 ghost use Rattle.tw_model.specs.Case.{IsCase, simulation};
 ghost use Rattle.tw_parallel.specs.Moving.{fit};
-ghost use Rattle.tw_parallel.specs.Vacancy.{AreVacant, IsClosed, IsStarted, IsVacancy, Start, no_vacant, start_from, start_of};
+ghost use Rattle.tw_parallel.specs.Vacancy.{AreVacant, IsFilled, IsTakenOver, IsVacancy, Start, no_vacant, start_from, start_of};
 ghost use Rattle.tw_seq.specs.Run.{complete_run, routers_after};
-ghost use Rattle.tw_seq.specs.Traced.{kept, lists_of, logs_after, traces_after};
+ghost use Rattle.tw_seq.specs.Traced.{lists_of, logs_after, retained, traces_after};
 ghost use Rattle.tw_shard.specs.Shard.{no_shard};
 ghost use Rattle.tw_sim.specs.Ordered.{insert_all};
 ghost use Rattle.tw_sim.specs.Seq.{rest};
@@ -51,15 +51,17 @@ impl<'a> Vacancy<'a> {
         requires some { 0 < workers }
         ensures vacancy { IfOk result (λ v. IsVacancy v) }
         ensures start { IfOk result (λ v. start_of v
-            ≡ record { case = run.now.run.case; owners = owners.now; workers = workers; time = run.now.run.stop; keeps = run.now.keeps; cancel = cancel }) }
+            ≡ record { case = run.now.run.case; owners = owners.now; workers = workers; time = run.now.run.stop; retains = run.now.retains; cancel = cancel }) }
     {
         let thread = run.run();
         let case = thread.case();
         let stop = thread.stop();
         let pending = thread.pending()?;
-        let keeps = run.keeps();
+        let retains = run.retains();
         let exchange = exchange_at(alloc, workers, stop, owners)?;
-        let vacant = vacant_shards(alloc, case, workers, owners, stop, &pending, keeps, cancel)?;
+        let vacant = vacant_shards(
+            alloc, case, workers, owners, stop, &pending, retains, cancel,
+        )?;
         let shards = Vec::with_capacity(alloc, workers as usize)?;
         let hands = open_hands(alloc, workers)?;
         Ok(Vacancy {
@@ -93,18 +95,18 @@ fn vacant_shards<'a>(
     owners: &[u32],
     time: u64,
     pending: &[Event],
-    keeps: bool,
+    retains: bool,
     cancel: Cancel,
 ) -> Result<Vec<VacantShard<'a>>, AllocError>
     requires owners { length owners.now ≡ case.now.net.nodes }
     requires pending { insert_all event_before pending.now [] ≡ rest (simulation case.now) time }
-    ensures { let start : Start = record { case = case.now; owners = owners.now; workers = workers; time = time; keeps = keeps; cancel = cancel } in
+    ensures { let start : Start = record { case = case.now; owners = owners.now; workers = workers; time = time; retains = retains; cancel = cancel } in
         IfOk result (λ v. AreVacant start 0 v.items) }
 {
     let mut vacant = Vec::with_capacity(alloc, workers as usize)?;
     for worker in 0..workers {
         vacant.push_reserved(VacantShard::at(
-            alloc, case, worker, workers, owners, time, pending, keeps, cancel,
+            alloc, case, worker, workers, owners, time, pending, retains, cancel,
         )?);
     }
     Ok(vacant)
@@ -117,8 +119,8 @@ pub(crate) fn move_in<'a>(run: TracedRun<'a>, owners: &[u32], vacancy: Vacancy<'
     requires owners { owners.now ≡ (start_of vacancy).owners }
     requires fit { fit (start_of vacancy).case.net.nodes (start_of vacancy).workers owners.now ≡ true }
     requires run { run.run ≡ complete_run (start_of vacancy).case (start_of vacancy).time }
-    requires keeps { run.keeps ≡ (start_of vacancy).keeps }
-    ensures { IsStarted (start_of vacancy.entry) result }
+    requires retains { run.retains ≡ (start_of vacancy).retains }
+    ensures { IsTakenOver (start_of vacancy.entry) result }
 {
     let Vacancy {
         case,
@@ -153,7 +155,7 @@ fn take_in<'a>(
     requires routers { let s = start_from owners.now vacant.items in routers.items ≡ routers_after s.case (complete_run s.case s.time).events }
     requires traces { let s = start_from owners.now vacant.items in traces.now ≡ traces_after s.case (complete_run s.case s.time).events }
     requires logs { let s = start_from owners.now vacant.items in IfSome logs (λ logs. lists_of logs.items ≡ logs_after s.case (complete_run s.case s.time).events) }
-    requires keeps { is_some logs ≡ (start_from owners.now vacant.items).keeps }
+    requires retains { is_some logs ≡ (start_from owners.now vacant.items).retains }
     ensures { let s = start_from owners.now vacant.entry.items in AreVacant s s.case.net.nodes result.items }
 {
     let alloc = *routers.allocator();
@@ -173,11 +175,11 @@ fn take_in<'a>(
     vacant
 }
 
-/// A router's events, where they are kept; else none.
+/// A router's events, where they are retained; else none.
 fn take_log(alloc: Global, logs: &mut Option<Vec<Vec<Event>>>, router: usize) -> Vec<Event>
     requires { IfSome logs.old (λ logs. router < length logs.items) }
     ensures log { IfSome logs.old (λ logs. result.items ≡ slice_index_or (lists_of logs.items) router []) }
-    ensures others { kept logs.new ≡ option_map (λ lists. slice_set lists router []) (kept logs.old) }
+    ensures others { retained logs.new ≡ option_map (λ lists. slice_set lists router []) (retained logs.old) }
 {
     match logs {
         Some(logs) => mem::replace(&mut logs[router], Vec::new(alloc)),
@@ -191,7 +193,7 @@ fn shards_of<'a>(vacant: Vec<VacantShard<'a>>, shards: Vec<Shard<'a>>) -> Vec<Sh
     requires empty { shards.items ≡ [] }
     requires room { length vacant.items ≤ vec_capacity shards }
     ensures count { length result.items ≡ length vacant.entry.items }
-    ensures each { (k : ℕ) → k < length result.items → IsClosed (slice_index_or vacant.entry.items k no_vacant) (slice_index_or result.items k no_shard) }
+    ensures each { (k : ℕ) → k < length result.items → IsFilled (slice_index_or vacant.entry.items k no_vacant) (slice_index_or result.items k no_shard) }
 {
     let mut shards = shards;
     for worker in vacant {

@@ -1,37 +1,27 @@
--- The events of a heap and of lists in rising order, when one comes, goes, or moves from the lists to the heap.
-use Rattle.std.proofs.Common.{◌≡◌, ℕ, zero, suc, ◌+◌, ◌<◌, ◌≤◌, true, false, List, [], ◌∷◌, ◌++◌, Some, set, slice_get, refl, ap, subst, inl, inr, arith}
+-- How often events stand in a tick, a heap and lists, when one comes, or moves from a list to the tick.
+use Rattle.std.proofs.Common.{◌≡◌, ℕ, zero, suc, ◌+◌, List, [], ◌∷◌, ◌++◌, Some, set, slice_get, refl, ap, arith}
 use Rattle.std.specs.Cmp.{IsTotalOrder}
-use Rattle.std.specs.Ordering.{is_lt}
 use Rattle.std.specs.declared.cmp.Ordering.{Ordering}
-use Rattle.std.specs.declared.cmp.Ordering.TheVariants.{Equal, Greater, Less}
+use Rattle.std.specs.declared.cmp.Ordering.TheVariants.{Equal}
 use Rattle.std.specs.declared.cmp.Reverse.{Reverse}
-use Rattle.std.proofs.lemmas.Bool.{cases_Bool, cases_eq}
-use Rattle.tw_sim.specs.Ordered.{insert, insert_all}
-use Rattle.tw_sim.specs.Rising.{IsRising}
-use Rattle.tw_sim.proofs.Ordered.{counted_is, rising-insert, rising-insert_all, times-insert, times-insert_all}
-use Rattle.tw_pending.specs.Order.{in_order, is_before, is_same}
-use Rattle.tw_pending.specs.Ring.{AreDays, all_in, all_of}
-use Rattle.tw_pending.proofs.Days.{all_later, some_of}
-use Rattle.tw_pending.proofs.Heaps.{count, law, rising, same_rising}
+use Rattle.tw_sim.specs.Ordered.{insert_all}
+use Rattle.tw_pending.specs.Order.{AreWith, count, in_order, is_before}
+use Rattle.tw_pending.specs.Ring.{all_in, all_of, events_of, waiting_in}
+use Rattle.tw_pending.proofs.Counts.{count-in_order, more_in_order}
 
-lt_less : (o : Ordering) → is_lt o ≡ true → o ≡ Less
-lt_less Less h = refl
-lt_less Equal h = cc
-lt_less Greater h = cc
-
-module _ {E : Type 0} (cmp : E → E → Ordering) (order : IsTotalOrder cmp) (exact : (d e : E) → cmp d e ≡ Equal → d ≡ e) where
-  count-append : (e : E) (xs ys : List E) → count cmp order exact e (xs ++ ys) ≡ count cmp order exact e xs + count cmp order exact e ys
+module _ {E : Type 0} (cmp : E → E → Ordering) where
+  pub count-append : (e : E) (xs ys : List E) → count cmp e (xs ++ ys) ≡ count cmp e xs + count cmp e ys
   count-append e [] ys = omega arith
   count-append e (x ∷ xs) ys = let k = count-append e xs ys in omega arith
 
   count_set : (e : E) (days : List (List E)) (i : ℕ) (day new : List E) → slice_get days i ≡ Some day
-      → count cmp order exact e (all_of (set days i new)) + count cmp order exact e day ≡ count cmp order exact e (all_of days) + count cmp order exact e new
+      → count cmp e (all_of (set days i new)) + count cmp e day ≡ count cmp e (all_of days) + count cmp e new
   count_set e [] i day new h = absurd (cc)
   count_set e (d ∷ ds) zero day new h =
       let is : d ≡ day = cc in
       let a = count-append e new (all_of ds) in
       let b = count-append e d (all_of ds) in
-      let c : count cmp order exact e d ≡ count cmp order exact e day = ap (count cmp order exact e) is in
+      let c : count cmp e d ≡ count cmp e day = ap (count cmp e) is in
       omega arith
   count_set e (d ∷ ds) (suc i) day new h =
       let k = count_set e ds i day new h in
@@ -39,76 +29,55 @@ module _ {E : Type 0} (cmp : E → E → Ordering) (order : IsTotalOrder cmp) (e
       let b = count-append e d (all_of ds) in
       omega arith
 
-  pub rising_all : (items : List (Reverse E)) (days : List (List E)) → IsRising (is_before cmp) (is_same cmp) (all_in cmp items days)
-  rising_all items days = rising-insert_all (is_before cmp) (is_same cmp) (law cmp order exact) (all_of days) (in_order cmp items) (rising cmp order exact items)
-
-  count_all : (e : E) (items : List (Reverse E)) (days : List (List E)) → count cmp order exact e (all_in cmp items days) ≡ count cmp order exact e (all_of days) + count cmp order exact e (in_order cmp items)
-  count_all e items days = times-insert_all (is_before cmp) (is_same cmp) e (all_of days) (in_order cmp items)
-
-  -- a day's events have moved to the heap
-  pub poured : (items new : List (Reverse E)) (days : List (List E)) (i : ℕ) (day : List E) → slice_get days i ≡ Some day
-      → in_order cmp new ≡ insert_all (is_before cmp) day (in_order cmp items) → all_in cmp new (set days i []) ≡ all_in cmp items days
-  poured items new days i day h is =
-      same_rising cmp order exact _ _ (rising_all new (set days i [])) (rising_all items days) (λ e.
-      let a = count_all e new (set days i []) in
-      let b = count_all e items days in
-      let c = count_set e days i day [] h in
-      let d = ap (count cmp order exact e) is in
-      let f = times-insert_all (is_before cmp) (is_same cmp) e day (in_order cmp items) in
-      omega arith)
-
   -- one more stands in a day's list
-  pub kept_one : (items : List (Reverse E)) (days : List (List E)) (i : ℕ) (day : List E) (x : E) → slice_get days i ≡ Some day
-      → all_in cmp items (set days i (day ++ x ∷ [])) ≡ insert (is_before cmp) x (all_in cmp items days)
-  kept_one items days i day x h =
-      same_rising cmp order exact _ _ (rising_all items (set days i (day ++ x ∷ []))) (rising-insert (is_before cmp) (is_same cmp) (law cmp order exact) x (all_in cmp items days) (rising_all items days)) (λ e.
-      let a = count_all e items (set days i (day ++ x ∷ [])) in
-      let b = count_all e items days in
-      let c = count_set e days i day (day ++ x ∷ []) h in
-      let d = count-append e day (x ∷ []) in
-      let f = times-insert (is_before cmp) (is_same cmp) e x (all_in cmp items days) in
-      omega arith)
+  pub kept_one : (days : List (List E)) (i : ℕ) (day : List E) (x : E) → slice_get days i ≡ Some day
+      → AreWith cmp (x ∷ []) (all_of days) (all_of (set days i (day ++ x ∷ [])))
+  kept_one days i day x h = λ e. let a = count_set e days i day (day ++ x ∷ []) h in let b = count-append e day (x ∷ []) in omega arith
+
+  -- a day's events are those of the tick
+  pub begun_one : (days : List (List E)) (i : ℕ) (day : List E) → slice_get days i ≡ Some day
+      → AreWith cmp [] (all_of days) (in_order cmp day ++ all_of (set days i []))
+  begun_one days i day h = λ e.
+      let a = count_set e days i day [] h in
+      let b = count-in_order cmp e day in
+      let c = count-append e (in_order cmp day) (all_of (set days i [])) in
+      omega arith
 
   -- one more stands in the heap
-  pub pushed_one : (items new : List (Reverse E)) (days : List (List E)) (x : E) → in_order cmp new ≡ insert (is_before cmp) x (in_order cmp items)
-      → all_in cmp new days ≡ insert (is_before cmp) x (all_in cmp items days)
-  pushed_one items new days x is =
-      same_rising cmp order exact _ _ (rising_all new days) (rising-insert (is_before cmp) (is_same cmp) (law cmp order exact) x (all_in cmp items days) (rising_all items days)) (λ e.
-      let a = count_all e new days in
-      let b = count_all e items days in
-      let c = ap (count cmp order exact e) is in
-      let d = times-insert (is_before cmp) (is_same cmp) e x (in_order cmp items) in
-      let f = times-insert (is_before cmp) (is_same cmp) e x (all_in cmp items days) in
-      omega arith)
+  pub more_in_heap : (more : List E) (items new : List (Reverse E)) (days : List (List E)) → AreWith cmp more (events_of items) (events_of new)
+      → AreWith cmp more (waiting_in items days) (waiting_in new days)
+  more_in_heap more items new days h = λ e.
+      let a = h e in
+      let b = count-append e (events_of items) (all_of days) in
+      let c = count-append e (events_of new) (all_of days) in
+      omega arith
 
-  -- the first of the heap is the first of all, where none in the lists is before it
-  first_all : (items : List (Reverse E)) (days : List (List E)) (x : E) (rest : List E) → in_order cmp items ≡ x ∷ rest
-      → ((e : E) → 0 < count cmp order exact e (all_of days) → is_before cmp e x ≡ false) → all_in cmp items days ≡ x ∷ insert_all (is_before cmp) (all_of days) rest
-  first_all items days x rest is none =
-      let up = subst (IsRising (is_before cmp) (is_same cmp)) is (rising cmp order exact items) in
-      same_rising cmp order exact _ _ (rising_all items days) (
-        (λ e there.
-            let k = times-insert_all (is_before cmp) (is_same cmp) e (all_of days) rest in
-            elim (cases_eq (count cmp order exact e (all_of days)) 0) [
-              | inl idle ↦ up.0 e (omega arith)
-              | inr some ↦ none e (some_of _ some)
-            ]),
-        rising-insert_all (is_before cmp) (is_same cmp) (law cmp order exact) (all_of days) rest up.1,
-      )
-      (λ e.
-      let a = count_all e items days in
-      let b = ap (count cmp order exact e) is in
-      let k = times-insert_all (is_before cmp) (is_same cmp) e (all_of days) rest in
-      omega arith)
+  -- or in the lists
+  pub more_in_days : (more : List E) (items : List (Reverse E)) (days new : List (List E)) → AreWith cmp more (all_of days) (all_of new)
+      → AreWith cmp more (waiting_in items days) (waiting_in items new)
+  more_in_days more items days new h = λ e.
+      let a = h e in
+      let b = count-append e (events_of items) (all_of days) in
+      let c = count-append e (events_of items) (all_of new) in
+      omega arith
 
-  module _ (time : E → ℕ) (timely : (d e : E) → cmp d e ≡ Less → time d ≤ time e) where
-    -- what is later is not before
-    not_before : (x e : E) → time x < time e → is_before cmp e x ≡ false
-    not_before x e later = elim (cases_Bool (is_lt (cmp e x))) [ inl b ↦ absurd (let k = timely e x (lt_less (cmp e x) b) in omega arith) | inr b ↦ b ]
+  module _ (order : IsTotalOrder cmp) (exact : (d e : E) → cmp d e ≡ Equal → d ≡ e) where
+    -- more have come, and then the ring has gone on
+    pub all_more : (more tick begun : List E) (items new : List (Reverse E)) (days kept left : List (List E)) → AreWith cmp more (waiting_in items days) (waiting_in new kept)
+        → AreWith cmp [] (tick ++ all_of kept) (begun ++ all_of left) → all_in cmp begun new left ≡ insert_all (is_before cmp) more (all_in cmp tick items days)
+    all_more more tick begun items new days kept left put gone =
+        more_in_order cmp order exact more (tick ++ waiting_in items days) (begun ++ waiting_in new left) (λ e.
+        let a = put e in
+        let b = gone e in
+        let c = count-append e tick (waiting_in items days) in
+        let d = count-append e begun (waiting_in new left) in
+        let f = count-append e (events_of new) (all_of kept) in
+        let g = count-append e (events_of new) (all_of left) in
+        let h = count-append e tick (all_of kept) in
+        let i = count-append e begun (all_of left) in
+        omega arith)
 
-    -- the least of a heap that is due is the least of all
-    pub first_due : (today : ℕ) (items : List (Reverse E)) (days : List (List E)) (x : E) (rest : List E) → in_order cmp items ≡ x ∷ rest → time x ≤ today → AreDays time today 0 days
-        → all_in cmp items days ≡ x ∷ insert_all (is_before cmp) (all_of days) rest
-    first_due today items days x rest is due are =
-        first_all items days x rest is (λ e there.
-        not_before x e (let later = counted_is (is_before cmp) (is_same cmp) (law cmp order exact) (λ y. today < time y) e (all_of days) (all_later time today 0 days are) there in omega arith))
+    -- the ring has gone on
+    pub all_same : (tick begun : List E) (items : List (Reverse E)) (days left : List (List E)) → AreWith cmp [] (tick ++ all_of days) (begun ++ all_of left)
+        → all_in cmp begun items left ≡ all_in cmp tick items days
+    all_same tick begun items days left gone = all_more [] tick begun items items days days left (λ e. omega arith) gone

@@ -29,7 +29,7 @@ module _ {E : Type 0} where
   all-back P [] ys a = a
   all-back P (x ∷ xs) ys a = all-back P xs ys a.1
 
-  all-map : (P Q : E → Type 0) → ((e : E) → P e → Q e) → (xs : List E) → AllByRecursion P xs → AllByRecursion Q xs
+  pub all-map : (P Q : E → Type 0) → ((e : E) → P e → Q e) → (xs : List E) → AllByRecursion P xs → AllByRecursion Q xs
   all-map P Q f [] a = tt
   all-map P Q f (x ∷ xs) a = (f x a.0, all-map P Q f xs a.1)
 

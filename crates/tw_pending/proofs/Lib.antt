@@ -1,4 +1,4 @@
-pub mod Heaps
+pub mod Counts
 pub mod Days
 pub mod Rings
 pub mod All

@@ -1,8 +1,9 @@
 -- A ring, when an event is taken up, when a tick is over, and when it is empty.
 use Rattle.std.proofs.Common.{◌≡◌, ℕ, ◌+◌, ◌-◌, ◌<◌, ◌≤◌, ◌%◌, ◌^◌, List, [], ◌∷◌, ◌++◌, Some, length, length-append, length-set, set, slice_get, refl, ◌∙◌, inl, inr, arith}
+use Rattle.std.specs.List.{AllByRecursion}
 use Rattle.tw_pending.specs.Ring.{AreBefore, IsOn, IsRing, all_of}
 use Rattle.tw_pending.specs.declared.ring.TheConstants.{DAYS}
-use Rattle.tw_pending.proofs.Days.{all-append, all_fit, all_later, before_next, days_empty, days_later, get_day, has_next, length_set, set_day}
+use Rattle.tw_pending.proofs.Days.{all-append, all-map, all_fit, all_later, before_next, days_empty, days_later, get_day, has_next, length_set, set_day}
 
 module _ {E : Type 0} (time : E → ℕ) (today waiting : ℕ) (days : List (List E)) (ring : IsRing time today waiting days) where
   pub kept_ring : (e : E) (place : ℕ) (day : List E) → time e % DAYS ≡ place → today < time e → time e < today + DAYS → time e < 2 ^ 64 → slice_get days place ≡ Some day
@@ -41,6 +42,11 @@ module _ {E : Type 0} (time : E → ℕ) (today waiting : ℕ) (days : List (Lis
     count = (let a = length_set days place day [] there in let c = ring.count in omega arith);
     many = elim ring.many [ inl h ↦ inl (length-set days place [] ∙ h) | inr h ↦ inr (length-set days place [] ∙ h) ];
   }
+
+  -- they are no later than it
+  pub next_begun : (place : ℕ) (day : List E) → (today + 1) % DAYS ≡ place → slice_get days place ≡ Some day → AllByRecursion (λ e. time e ≤ today + 1) day
+  next_begun place day at there =
+      all-map _ _ (λ e on. let a = on.at in let b = on.later in let c = on.near in omega arith) day (get_day time today 0 days place day ring.are there)
 
   -- a ring in which none waits is that of any tick
   pub idle_ring : (later : ℕ) → waiting ≡ 0 → IsRing time later waiting days

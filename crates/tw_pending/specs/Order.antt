@@ -1,9 +1,9 @@
 -- Events in the order of their comparison (own).
-use Rattle.std.specs.Prelude.{Bool, List, [], map}
+use Rattle.std.specs.Prelude.{ℕ, ◌+◌, ◌≡◌, Bool, List, []}
 use Rattle.std.specs.Ordering.{is_eq, is_lt}
 use Rattle.std.specs.declared.cmp.Ordering.{Ordering}
 use Rattle.std.specs.declared.cmp.Reverse.{Reverse}
-use Rattle.tw_sim.specs.Ordered.{insert_all}
+use Rattle.tw_sim.specs.Ordered.{insert_all, times}
 use Rattle.tw_sim.specs.Rising.{IsRising}
 
 module _ {E : Type 0} (cmp : E → E → Ordering) where
@@ -18,10 +18,18 @@ module _ {E : Type 0} (cmp : E → E → Ordering) where
   abbrev pub reversed : Reverse E → Reverse E → Ordering
   reversed x y = cmp y.0 x.0
 
-  -- the events of a heap, in rising order
-  abbrev pub in_order : List (Reverse E) → List E
-  in_order items = insert_all is_before (map (λ x. x.0) items) []
+  -- how often an event stands among others
+  abbrev pub count : E → List E → ℕ
+  count e events = times is_same e events
+
+  -- events in rising order
+  abbrev pub in_order : List E → List E
+  in_order events = insert_all is_before events []
 
   -- the first ones first
   abbrev pub IsInOrder : List E → Type 0
   IsInOrder events = IsRising is_before is_same events
+
+  -- the new events are the old ones and some more, in any order
+  abbrev pub AreWith : List E → List E → List E → Type 0
+  AreWith more old new = (e : E) → count e new ≡ count e more + count e old

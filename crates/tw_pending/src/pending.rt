@@ -4,8 +4,9 @@ ghost use Rattle.std.specs.Prelude.{◌≡◌, [], IfOk, OnErr, OnOk, drop, slic
 ghost use Rattle.tw_sim.specs.Ordered.{insert, insert_all};
 ghost use Rattle.tw_pending.specs.Order.{IsInOrder, is_before};
 
-use crate::calendar::{go_on, put, put_each, take_top};
+use crate::calendar::{go_on, is_heap_first, put, put_each, take_first};
 use crate::ring::{DAYS, Ring};
+use crate::tick::Tick;
 use std::alloc::{AllocError, Global};
 use std::cmp::Reverse;
 use std::collections::BinaryHeap;
@@ -14,28 +15,29 @@ use tw_process::Timed;
 
 /// Events that wait, as contracts see them in rising order.
 ///
-/// Those of the next ticks may stand in a list for each tick, and all others stand in a heap, which has room for all of
-/// them.
+/// Those of the next ticks may stand in a list for each tick, which is put in order when its tick begins, and all others
+/// stand in a heap.
 #[derive(Drop)]
 pub struct Pending<E: Timed> {
+    tick: Tick<E>,
     heap: BinaryHeap<Reverse<E>>,
     ring: Ring<E>,
 }
 
 impl<E: Timed> Model for Pending<E> {
-    ghost use Rattle.std.specs.Prelude.{◌≡◌, ◌+◌, ◌≤◌, ◌⊎◌, List};
-    ghost use Rattle.std.specs.BinaryHeap.{IsHeap, heap_capacity, heap_items, heap_len};
+    ghost use Rattle.std.specs.Prelude.{◌++◌, List};
+    ghost use Rattle.std.specs.BinaryHeap.{IsHeap, heap_items};
     ghost use Rattle.tw_pending.specs.Order.{reversed};
-    ghost use Rattle.tw_pending.specs.Ring.{IsDue, IsRing, all_in, lists_of};
+    ghost use Rattle.tw_pending.specs.Ring.{IsBegun, IsDue, IsRing, all_in, events_of, lists_of};
 
     ghost Value = { List E };
 
-    ghost view = { λ a. all_in E.cmp (heap_items a.heap) (lists_of a.ring.days.items) };
+    ghost view = { λ a. all_in E.cmp a.tick (heap_items a.heap) (lists_of a.ring.days.items) };
 
     ghost invariant = { λ a. IsHeap (reversed E.cmp) (heap_items a.heap)
         × IsRing E.parts.time a.ring.today a.ring.waiting (lists_of a.ring.days.items)
-        × (heap_len a.heap + a.ring.waiting ≤ heap_capacity a.heap)
-        × ((a.ring.waiting ≡ 0) ⊎ IsDue E.parts.time a.ring.today (heap_items a.heap)) };
+        × IsBegun E.parts.time a.ring.today a.tick
+        × IsDue E.parts.time a.ring.today E.cmp a.ring.waiting (a.tick ++ events_of (heap_items a.heap)) };
 }
 
 impl<E: Timed> Pending<E> {
@@ -44,6 +46,7 @@ impl<E: Timed> Pending<E> {
         ensures { result ≡ [] }
     {
         Pending {
+            tick: Tick::new(alloc),
             heap: BinaryHeap::new(alloc),
             ring: Ring {
                 today: 0,
@@ -63,6 +66,7 @@ impl<E: Timed> Pending<E> {
         }
         let heap = BinaryHeap::new(alloc);
         Ok(Pending {
+            tick: Tick::new(alloc),
             heap,
             ring: Ring {
                 today: 0,
@@ -77,12 +81,9 @@ impl<E: Timed> Pending<E> {
         ensures ok { OnOk result (self.new ≡ insert (is_before E.cmp) event self.old) }
         ensures err { OnErr result (self.new ≡ self.old) }
     {
-        let Some(room) = self.ring.waiting.checked_add(1) else {
-            return Err(AllocError);
-        };
-        self.heap.reserve(room)?;
+        self.heap.reserve(1)?;
         put(&mut self.heap, &mut self.ring, event);
-        go_on(&mut self.heap, &mut self.ring);
+        go_on(&mut self.tick, &self.heap, &mut self.ring);
         Ok(())
     }
 
@@ -91,12 +92,9 @@ impl<E: Timed> Pending<E> {
         ensures ok { OnOk result (self.new ≡ insert_all (is_before E.cmp) events.now self.old) }
         ensures err { OnErr result (self.new ≡ self.old) }
     {
-        let Some(room) = self.ring.waiting.checked_add(events.len()) else {
-            return Err(AllocError);
-        };
-        self.heap.reserve(room)?;
+        self.heap.reserve(events.len())?;
         put_each(&mut self.heap, &mut self.ring, events);
-        go_on(&mut self.heap, &mut self.ring);
+        go_on(&mut self.tick, &self.heap, &mut self.ring);
         Ok(())
     }
 
@@ -107,13 +105,10 @@ impl<E: Timed> Pending<E> {
         ensures ok { OnOk result (self.new ≡ insert_all (is_before E.cmp) events.now (drop 1 self.old)) }
         ensures err { OnErr result (self.new ≡ self.old) }
     {
-        let Some(room) = self.ring.waiting.checked_add(events.len()) else {
-            return Err(AllocError);
-        };
-        self.heap.reserve(room)?;
-        let _ = take_top(&mut self.heap, &self.ring);
+        self.heap.reserve(events.len())?;
+        let _ = take_first(&mut self.tick, &mut self.heap, &self.ring);
         put_each(&mut self.heap, &mut self.ring, events);
-        go_on(&mut self.heap, &mut self.ring);
+        go_on(&mut self.tick, &self.heap, &mut self.ring);
         Ok(())
     }
 
@@ -123,6 +118,9 @@ impl<E: Timed> Pending<E> {
         ensures first { result ≡ slice_get self.now 0 }
         ensures order { IsInOrder E.cmp self.now }
     {
+        if !is_heap_first(&self.tick, &self.heap, &self.ring) {
+            return self.tick.first();
+        }
         let top = self.heap.peek()?;
         Some(top.0)
     }
@@ -132,8 +130,8 @@ impl<E: Timed> Pending<E> {
         ensures first { result ≡ slice_get self.old 0 }
         ensures rest { self.new ≡ drop 1 self.old }
     {
-        let least = take_top(&mut self.heap, &self.ring);
-        go_on(&mut self.heap, &mut self.ring);
+        let least = take_first(&mut self.tick, &mut self.heap, &self.ring);
+        go_on(&mut self.tick, &self.heap, &mut self.ring);
         least
     }
 }

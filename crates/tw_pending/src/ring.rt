@@ -1,13 +1,12 @@
 //! Events of the next ticks, in a list for each tick.
 
-ghost use Rattle.std.specs.Prelude.{ℕ, ◌≡◌, ◌+◌, ◌<◌, ◌≤◌, ◌^◌, ◌⊎◌, ◌∷◌, ◌++◌, [], List, Some, length, slice_get, slice_set};
+ghost use Rattle.std.specs.Prelude.{ℕ, ◌≡◌, ◌+◌, ◌<◌, ◌≤◌, ◌^◌, ◌∷◌, ◌++◌, [], List, Some, length, slice_get, slice_set};
 ghost use Rattle.std.specs.Bool.{OnFalse, OnTrue};
-ghost use Rattle.std.specs.BinaryHeap.{IsHeap, heap_capacity, heap_items, heap_len};
-ghost use Rattle.tw_sim.specs.Ordered.{insert, insert_all};
-ghost use Rattle.tw_pending.specs.Order.{in_order, is_before, reversed};
-ghost use Rattle.tw_pending.specs.Ring.{AreBefore, IsDue, IsRing, all_in, lists_of};
+ghost use Rattle.std.specs.BinaryHeap.{heap_items};
+ghost use Rattle.tw_pending.specs.Order.{AreWith, in_order};
+ghost use Rattle.tw_pending.specs.Ring.{AreBefore, IsBegun, IsDue, IsRing, all_of, events_of, lists_of};
 
-use crate::heap::push_each;
+use crate::tick::Tick;
 use std::cmp::Reverse;
 use std::collections::BinaryHeap;
 use tw_process::Timed;
@@ -29,13 +28,11 @@ pub(crate) struct Ring<E: Timed> {
 /// Takes up an event that is near, where there is memory for that, and tells whether it has.
 #[inline(always)]
 pub(crate) fn keep<E: Timed>(ring: &mut Ring<E>, event: E) -> bool
-    requires ring { IsRing E.parts.time ring.old.today ring.old.waiting (lists_of ring.old.days.items) }
-    requires few { ring.old.waiting + 1 < 2 ^ 64 }
+    requires { IsRing E.parts.time ring.old.today ring.old.waiting (lists_of ring.old.days.items) }
     ensures ring { IsRing E.parts.time ring.new.today ring.new.waiting (lists_of ring.new.days.items) }
-    ensures yes { OnTrue result (ring.new.waiting ≡ ring.old.waiting + 1) }
-    ensures all { (heap : List (Reverse E)) → OnTrue result (all_in E.cmp heap (lists_of ring.new.days.items) ≡ insert (is_before E.cmp) event (all_in E.cmp heap (lists_of ring.old.days.items))) }
-    ensures no { OnFalse result (ring.new.waiting ≡ ring.old.waiting) }
-    ensures same { OnFalse result (lists_of ring.new.days.items ≡ lists_of ring.old.days.items) }
+    ensures today { ring.new.today ≡ ring.old.today }
+    ensures yes { OnTrue result (AreWith E.cmp (event ∷ []) (all_of (lists_of ring.old.days.items)) (all_of (lists_of ring.new.days.items))) }
+    ensures no { OnFalse result (lists_of ring.new.days.items ≡ lists_of ring.old.days.items) }
 {
     let time = event.time();
     if time <= ring.today {
@@ -48,10 +45,13 @@ pub(crate) fn keep<E: Timed>(ring: &mut Ring<E>, event: E) -> bool
     if place >= ring.days.len() {
         return false;
     }
+    let Some(waiting) = ring.waiting.checked_add(1) else {
+        return false;
+    };
     if !add(&mut ring.days, place, event) {
         return false;
     }
-    ring.waiting += 1;
+    ring.waiting = waiting;
     true
 }
 
@@ -70,31 +70,37 @@ fn add<E: Timed>(days: &mut Vec<Vec<E>>, place: usize, event: E) -> bool
     true
 }
 
-/// Goes on to the tick where the heap's least event is due, or the events of that tick go to the heap, which has room for
-/// them; else where no event waits here any more.
+/// Goes on from tick to tick, until one that has events begins or the heap's least event is due; else where no event
+/// waits here any more.
 #[inline(always)]
-pub(crate) fn settle<E: Timed>(heap: &mut BinaryHeap<Reverse<E>>, ring: &mut Ring<E>)
+pub(crate) fn settle<E: Timed>(
+    tick: &mut Tick<E>,
+    heap: &BinaryHeap<Reverse<E>>,
+    ring: &mut Ring<E>,
+)
     requires ring { IsRing E.parts.time ring.old.today ring.old.waiting (lists_of ring.old.days.items) }
-    requires heap { IsHeap (reversed E.cmp) (heap_items heap.old) }
-    requires room { heap_len heap.old + ring.old.waiting ≤ heap_capacity heap.old }
+    requires begun { IsBegun E.parts.time ring.old.today tick.old }
     ensures ring { IsRing E.parts.time ring.new.today ring.new.waiting (lists_of ring.new.days.items) }
-    ensures heap { IsHeap (reversed E.cmp) (heap_items heap.new) }
-    ensures len { heap_len heap.new + ring.new.waiting ≡ heap_len heap.old + ring.old.waiting }
-    ensures capacity { heap_capacity heap.old ≤ heap_capacity heap.new }
-    ensures all { all_in E.cmp (heap_items heap.new) (lists_of ring.new.days.items) ≡ all_in E.cmp (heap_items heap.old) (lists_of ring.old.days.items) }
-    ensures due { (ring.new.waiting ≡ 0) ⊎ IsDue E.parts.time ring.new.today (heap_items heap.new) }
+    ensures begun { IsBegun E.parts.time ring.new.today tick.new }
+    ensures all { AreWith E.cmp [] (tick.old ++ all_of (lists_of ring.old.days.items)) (tick.new ++ all_of (lists_of ring.new.days.items)) }
+    ensures due { IsDue E.parts.time ring.new.today E.cmp ring.new.waiting (tick.new ++ events_of (heap_items heap.now)) }
 {
-    while is_early(heap, ring) {
-        next_day(heap, ring);
+    while is_early(tick, heap, ring) {
+        next_day(tick, ring);
     }
 }
 
-/// Whether events wait here, and the heap's least event is later than today.
+/// Whether events wait here, none of the tick is left, and the heap's least event is later than today.
 #[inline(always)]
-fn is_early<E: Timed>(heap: &BinaryHeap<Reverse<E>>, ring: &Ring<E>) -> bool
+fn is_early<E: Timed>(tick: &Tick<E>, heap: &BinaryHeap<Reverse<E>>, ring: &Ring<E>) -> bool
+    requires { IsBegun E.parts.time ring.now.today tick.now }
     ensures yes { OnTrue result (0 < ring.now.waiting) }
-    ensures no { OnFalse result ((ring.now.waiting ≡ 0) ⊎ IsDue E.parts.time ring.now.today (heap_items heap.now)) }
+    ensures over { OnTrue result (tick.now ≡ []) }
+    ensures no { OnFalse result (IsDue E.parts.time ring.now.today E.cmp ring.now.waiting (tick.now ++ events_of (heap_items heap.now))) }
 {
+    if !tick.is_over() {
+        return false;
+    }
     if ring.waiting == 0 {
         return false;
     }
@@ -107,53 +113,49 @@ fn is_early<E: Timed>(heap: &BinaryHeap<Reverse<E>>, ring: &Ring<E>) -> bool
     true
 }
 
-/// Goes on to the next tick, whose events go to the heap, which has room for them.
-fn next_day<E: Timed>(heap: &mut BinaryHeap<Reverse<E>>, ring: &mut Ring<E>)
+/// Goes on to the next tick, which begins where it has events.
+fn next_day<E: Timed>(tick: &mut Tick<E>, ring: &mut Ring<E>)
     requires ring { IsRing E.parts.time ring.old.today ring.old.waiting (lists_of ring.old.days.items) }
     requires some { 0 < ring.old.waiting }
-    requires heap { IsHeap (reversed E.cmp) (heap_items heap.old) }
-    requires room { heap_len heap.old + ring.old.waiting ≤ heap_capacity heap.old }
+    requires over { tick.old ≡ [] }
     ensures ring { IsRing E.parts.time ring.new.today ring.new.waiting (lists_of ring.new.days.items) }
     ensures today { ring.new.today ≡ ring.old.today + 1 }
-    ensures heap { IsHeap (reversed E.cmp) (heap_items heap.new) }
-    ensures len { heap_len heap.new + ring.new.waiting ≡ heap_len heap.old + ring.old.waiting }
-    ensures capacity { heap_capacity heap.old ≤ heap_capacity heap.new }
-    ensures all { all_in E.cmp (heap_items heap.new) (lists_of ring.new.days.items) ≡ all_in E.cmp (heap_items heap.old) (lists_of ring.old.days.items) }
+    ensures begun { IsBegun E.parts.time ring.new.today tick.new }
+    ensures all { AreWith E.cmp [] (all_of (lists_of ring.old.days.items)) (tick.new ++ all_of (lists_of ring.new.days.items)) }
     ensures near { (horizon : ℕ) → AreBefore E.parts.time horizon (lists_of ring.old.days.items) → AreBefore E.parts.time horizon (lists_of ring.new.days.items) }
 {
     ring.today += 1;
     let place = (ring.today % DAYS) as usize;
-    ring.waiting -= pour(heap, &mut ring.days, place);
+    ring.waiting -= begin(tick, &mut ring.days, place);
 }
 
-/// The events of the list at this place go to the heap, which has room for them. Answers how many they are.
-fn pour<E: Timed>(heap: &mut BinaryHeap<Reverse<E>>, days: &mut Vec<Vec<E>>, place: usize) -> usize
+/// The events of the list at this place are those of the tick, in order. Answers how many they are.
+#[inline(always)]
+fn begin<E: Timed>(tick: &mut Tick<E>, days: &mut Vec<Vec<E>>, place: usize) -> usize
     requires within { place < length days.old.items }
-    requires heap { IsHeap (reversed E.cmp) (heap_items heap.old) }
-    requires room { (day : List E) → slice_get (lists_of days.old.items) place ≡ Some day → heap_len heap.old + length day ≤ heap_capacity heap.old }
-    ensures heap { IsHeap (reversed E.cmp) (heap_items heap.new) }
-    ensures capacity { heap_capacity heap.old ≤ heap_capacity heap.new }
-    ensures len { heap_len heap.new ≡ heap_len heap.old + result }
+    requires over { tick.old ≡ [] }
     ensures count { (day : List E) → slice_get (lists_of days.old.items) place ≡ Some day → result ≡ length day }
     ensures days { lists_of days.new.items ≡ slice_set (lists_of days.old.items) place [] }
-    ensures poured { (day : List E) → slice_get (lists_of days.old.items) place ≡ Some day
-        → in_order E.cmp (heap_items heap.new) ≡ insert_all (is_before E.cmp) day (in_order E.cmp (heap_items heap.old)) }
+    ensures tick { (day : List E) → slice_get (lists_of days.old.items) place ≡ Some day → tick.new ≡ in_order E.cmp day }
 {
     let day = &mut days[place];
     let count = day.len();
-    push_each(heap, day);
-    day.clear();
+    if count == 0 {
+        return 0;
+    }
+    tick.take_over(day);
     count
 }
 
 /// Where no event waits here, today is no earlier than the heap's least event.
 #[inline(always)]
-pub(crate) fn catch_up<E: Timed>(heap: &BinaryHeap<Reverse<E>>, ring: &mut Ring<E>)
+pub(crate) fn catch_up<E: Timed>(tick: &Tick<E>, heap: &BinaryHeap<Reverse<E>>, ring: &mut Ring<E>)
     requires ring { IsRing E.parts.time ring.old.today ring.old.waiting (lists_of ring.old.days.items) }
-    requires due { (ring.old.waiting ≡ 0) ⊎ IsDue E.parts.time ring.old.today (heap_items heap.now) }
+    requires begun { IsBegun E.parts.time ring.old.today tick.now }
+    requires due { IsDue E.parts.time ring.old.today E.cmp ring.old.waiting (tick.now ++ events_of (heap_items heap.now)) }
     ensures ring { IsRing E.parts.time ring.new.today ring.new.waiting (lists_of ring.new.days.items) }
-    ensures due { (ring.new.waiting ≡ 0) ⊎ IsDue E.parts.time ring.new.today (heap_items heap.now) }
-    ensures waiting { ring.new.waiting ≡ ring.old.waiting }
+    ensures begun { IsBegun E.parts.time ring.new.today tick.now }
+    ensures due { IsDue E.parts.time ring.new.today E.cmp ring.new.waiting (tick.now ++ events_of (heap_items heap.now)) }
     ensures days { lists_of ring.new.days.items ≡ lists_of ring.old.days.items }
 {
     if ring.waiting > 0 {

@@ -36,6 +36,10 @@ job m s e = record {
   body = tt;
 }
 
+-- the state that handling a job leaves
+abbrev pub handled_one : State → State
+handled_one s = record { random = stepped (stepped (stepped s.random)); handled = s.handled + 1 }
+
 -- the word that the seed gives for a number
 abbrev pub seeded : Phold → ℕ → ℕ
 seeded m k = word_of ((m.seed + k) % 2 ^ 64)
@@ -55,7 +59,7 @@ abbrev pub behaviour_of : Phold → Behaviour State Job
 behaviour_of m = record {
   processes = m.processes;
   start = λ r. record { random = seeded m r; handled = 0 };
-  after = λ s e. record { random = stepped (stepped (stepped s.random)); handled = s.handled + 1 };
+  after = λ s e. handled_one s;
   sends = λ s e. job m s e ∷ [];
   opening = first (opening_job m) (m.processes * m.jobs);
   most = 1;

@@ -1,9 +1,11 @@
-//! PHOLD as a model: its forward and its reverse handler.
+//! PHOLD as a model: what a job does and sends, and the way back.
 
-ghost use Rattle.std.specs.Prelude.{◌≡◌, ◌*◌, ◌<◌, ◌^◌, true, IfOk};
+ghost use Rattle.std.specs.Prelude.{◌≡◌, ◌<◌, ◌≤◌, ◌^◌};
 ghost use Rattle.tw_process.specs.First.{first};
 ghost use Rattle.tw_process.specs.declared.limits.TheConstants.{LATEST};
-ghost use Rattle.tw_phold.specs.Phold.{behaviour_of, delay_by, job, opening_job, seeded, target_by};
+ghost use Rattle.tw_phold.specs.declared.state.State.{State as AState};
+ghost use Rattle.tw_phold.specs.declared.state.TheConstants.{MOST_HANDLED};
+ghost use Rattle.tw_phold.specs.Phold.{behaviour_of, delay_by, handled_one, job, opening_job, seeded, target_by};
 
 use crate::phold::Phold;
 use crate::random::{step, step_back, word};
@@ -54,21 +56,22 @@ impl Phold {
         }
     }
 
-    // The job that goes on.
+    // The job that goes on, by the state that its process has been left in.
     #[inline(always)]
-    fn job(&self, state: &State, event: &Event<()>) -> Event<()>
+    fn job(&self, left: &State, event: &Event<()>) -> Event<()>
         requires time { event.now.time < LATEST }
-        requires number { state.now.handled < MOST_HANDLED }
-        ensures { result ≡ job self.now state.now event.now }
+        requires counted { 0 < left.now.handled }
+        requires few { left.now.handled ≤ MOST_HANDLED }
+        ensures { (before : AState) → before.random < 2 ^ 64 → left.now ≡ handled_one before → result ≡ job self.now before event.now }
     {
-        let first = step(state.random);
-        let second = step(first);
-        let third = step(second);
+        let third = left.random;
+        let second = step_back(third);
+        let first = step_back(second);
         Event {
             time: event.time + self.delay(word(first)),
             dst: self.target(event.dst, word(second), word(third)),
             src: event.dst,
-            seq: u64::from(self.jobs) + state.handled,
+            seq: u64::from(self.jobs) + (left.handled - 1),
             body: (),
         }
     }
@@ -127,38 +130,30 @@ impl ProcessModel for Phold {
     }
 
     #[inline(always)]
-    fn forward(
-        &self,
-        _number: u32,
-        state: &mut State,
-        event: &Event<()>,
-        sends: &mut Vec<Event<()>>,
-    ) -> Result<(), Refused> {
+    fn receive(&self, _number: u32, state: &mut State, _event: &Event<()>) -> Result<(), Refused> {
         if state.handled >= MOST_HANDLED {
             return Err(Refused::CounterFull);
         }
-        sends.push_reserved(self.job(state, event));
         state.random = step(step(step(state.random)));
         state.handled += 1;
         Ok(())
     }
 
     #[inline(always)]
-    fn take_back(&self, _number: u32, state: &mut State, _event: &Event<()>, _note: ()) {
-        state.random = step_back(step_back(step_back(state.random)));
-        state.handled -= 1;
+    fn send(
+        &self,
+        _number: u32,
+        state: &State,
+        event: &Event<()>,
+        _note: (),
+        sends: &mut Vec<Event<()>>,
+    ) {
+        sends.push_reserved(self.job(state, event));
     }
 
     #[inline(always)]
-    fn reverse(
-        &self,
-        number: u32,
-        state: &mut State,
-        event: &Event<()>,
-        note: (),
-        sends: &mut Vec<Event<()>>,
-    ) {
-        self.take_back(number, state, event, note);
-        sends.push_reserved(self.job(state, event));
+    fn take_back(&self, _number: u32, state: &mut State, _event: &Event<()>, _note: ()) {
+        state.random = step_back(step_back(step_back(state.random)));
+        state.handled -= 1;
     }
 }

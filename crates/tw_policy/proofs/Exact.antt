@@ -17,7 +17,7 @@ use Rattle.tw_policy.specs.Left.{allows, covers, follows, is_covered, is_given, 
 use Rattle.tw_policy.specs.Search.{AreOnce}
 use Rattle.tw_policy.proofs.Left.{IsAllowed, reached_by, reached_from}
 use Rattle.tw_policy.proofs.Lists.{same_number}
-use Rattle.tw_policy.proofs.Rests.{IsListed, lists, some_kept, some_path}
+use Rattle.tw_policy.proofs.Rests.{IsLeftAfterRounds, lists, some_kept, some_path}
 use Rattle.tw_policy.proofs.Topological.{none_in}
 use Rattle.tw_model.specs.Case.{Case, IsCase}
 use Rattle.tw_policy.specs.Standing.{standing}
@@ -223,7 +223,7 @@ module _ (net : Net) (is : IsNet net) (states : ℕ → State) (own : (v : ℕ) 
   pub left_may : (n v : ℕ) (q : PathNo) → In q (left_after net states n v) → MayUse net states n v q
   left_may zero v q i = tt
   left_may (suc n) v q i =
-      let some = λ (w : ℕ). (let there = some_kept net states (IsListed net states) (lists net states) n w in
+      let some = λ (w : ℕ). (let there = some_kept net states (IsLeftAfterRounds net states) (lists net states) n w in
       let one : (p : PathNo) × In p (left_after net states n w) = (some_path net states n w, there) in one) in
       elim (cases_Bool (v == 0)) [
         | inl b ↦ (
@@ -272,6 +272,6 @@ module _ (case : Case) (is : IsCase case) where
   pub solved_one_left : (n : ℕ) → IsSolvedIn case.net (standing case) n → (v : ℕ) → v < case.net.nodes → (q : PathNo) × (left_after case.net (standing case) n v ≡ q ∷ [])
   solved_one_left n solved v here =
       let p = some_path case.net (standing case) n v in
-      let there = some_kept case.net (standing case) (IsListed case.net (standing case)) (lists case.net (standing case)) n v in
+      let there = some_kept case.net (standing case) (IsLeftAfterRounds case.net (standing case)) (lists case.net (standing case)) n v in
       only_one (left_after case.net (standing case) n v) p (left_once n v) there
       (λ x i. solved v here x p (case_left_may n v x i) (case_left_may n v p there))

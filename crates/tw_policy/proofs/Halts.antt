@@ -13,7 +13,7 @@ use Rattle.tw_policy.specs.DisputeWheel.{IsDisputeWheel, Pivot}
 use Rattle.tw_policy.specs.Left.{IsHalted, allows, covers, is_covered, is_given, left_after, remaining, round_left}
 use Rattle.tw_policy.specs.Search.{all_paths, is_one_of, total}
 use Rattle.tw_policy.proofs.Lists.{all_from, all_in, any_agree, same_number}
-use Rattle.tw_policy.proofs.Rests.{IsListed, lists, some_kept, some_path}
+use Rattle.tw_policy.proofs.Rests.{IsLeftAfterRounds, lists, some_kept, some_path}
 use Rattle.tw_policy.proofs.Stuck.{stuck_wheel}
 
 -- ---- a list with some left out
@@ -175,32 +175,32 @@ module _ (net : Net) (states : ℕ → State) where
       (hop_of net v (hop net v (slot net v w)) (hop_in_hops net v (slot net v w) (ltb-true (slot net v w) (length (hops_of net v)) there))).2
 
   -- the round after so many changes nothing
-  abbrev pub IsLast : ℕ → Type 0
-  IsLast n = (v : ℕ) → v < net.nodes → left_after net states (suc n) v ≡ left_after net states n v
+  abbrev pub IsLastRound : ℕ → Type 0
+  IsLastRound n = (v : ℕ) → v < net.nodes → left_after net states (suc n) v ≡ left_after net states n v
 
-  same_after : (n v : ℕ) → IsLast n → left_after net states (suc (suc n)) v ≡ left_after net states (suc n) v
+  same_after : (n v : ℕ) → IsLastRound n → left_after net states (suc (suc n)) v ≡ left_after net states (suc n) v
   same_after n v last = grind (arith, remaining_same, peer_below, there)
 
-  stays_last : (n k : ℕ) → IsLast n → IsLast (n + k)
+  stays_last : (n k : ℕ) → IsLastRound n → IsLastRound (n + k)
   stays_last n zero last = grind arith
-  stays_last n (suc k) last = subst IsLast (sum_suc n k) (λ v here. same_after (n + k) v (stays_last n k last)) where
+  stays_last n (suc k) last = subst IsLastRound (sum_suc n k) (λ v here. same_after (n + k) v (stays_last n k last)) where
     sum_suc : (n k : ℕ) → suc (n + k) ≡ n + suc k
     sum_suc n k = omega arith
 
-  pub over : (n : ℕ) → IsLast n → (k v : ℕ) → v < net.nodes → left_after net states (n + k) v ≡ left_after net states n v
+  pub over : (n : ℕ) → IsLastRound n → (k v : ℕ) → v < net.nodes → left_after net states (n + k) v ≡ left_after net states n v
   over n last zero v here = grind arith
   over n last (suc k) v here = ap (λ m. left_after net states m v) (sum_suc n k) ∙ (stays_last n k last v here ∙ over n last k v here) where
     sum_suc : (n k : ℕ) → n + suc k ≡ suc (n + k)
     sum_suc n k = omega arith
 
-  pub fewer : (n : ℕ) → (total (left_after net states (suc n)) routers < total (left_after net states n) routers) ⊎ IsLast n
+  pub fewer : (n : ℕ) → (total (left_after net states (suc n)) routers < total (left_after net states n) routers) ⊎ IsLastRound n
   fewer n =
       elim (fewer_or_same (left_after net states (suc n)) (left_after net states n) (left_within n) routers) [
         | inl less ↦ inl less
         | inr same ↦ inr (λ v here. same v (range_has v 0 net.nodes (omega arith) (omega arith)))
       ]
 
-  halts_from : (k n : ℕ) → total (left_after net states n) routers ≤ k → (m : ℕ) × (m ≤ n + k) × IsLast m
+  halts_from : (k n : ℕ) → total (left_after net states n) routers ≤ k → (m : ℕ) × (m ≤ n + k) × IsLastRound m
   halts_from zero n few = elim (fewer n) [ inl less ↦ absurd (omega arith) | inr last ↦ (n, omega arith, last) ]
   halts_from (suc k) n few =
       elim (fewer n) [
@@ -209,7 +209,7 @@ module _ (net : Net) (states : ℕ → State) where
       ]
 
   -- a halt comes within as many rounds as there are paths in all
-  pub halts : (n : ℕ) × (n ≤ total (all_paths net states) routers) × IsLast n
+  pub halts : (n : ℕ) × (n ≤ total (all_paths net states) routers) × IsLastRound n
   halts = let h = halts_from (total (all_paths net states) routers) 0 (omega arith) in let soon = h.1 in (h.0, omega arith, h.2)
 
   -- without a dispute wheel each router has one path left at the halt
@@ -228,7 +228,7 @@ module _ (net : Net) (states : ℕ → State) where
                   let wheel = stuck_wheel net states left (λ w. sym (same_after n w h.2)) v (ltb-true 1 (length (left v)) b) in
                   absurd (no_wheel wheel.one wheel.others wheel.is))
             ] in
-            let there = some_kept net states (IsListed net states) (lists net states) (suc n) v in
+            let there = some_kept net states (IsLeftAfterRounds net states) (lists net states) (suc n) v in
             let one = one_of (left v) (some_path net states (suc n) v) there few in
             (one.0, sym (h.2 v here) ∙ one.1),
       )

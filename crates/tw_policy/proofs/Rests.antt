@@ -30,7 +30,7 @@ use Rattle.tw_policy.specs.Left.{left_after, remaining}
 use Rattle.tw_policy.proofs.Left.{stable_remains}
 use Rattle.tw_policy.proofs.Lists.{found_in}
 use Rattle.tw_policy.specs.Standing.{standing}
-use Rattle.tw_policy.proofs.Stand.{IsWhole, is_scripted, stable_stand}
+use Rattle.tw_policy.proofs.Stand.{HasWholeScript, is_scripted, stable_stand}
 use Rattle.tw_policy.proofs.Standing.{stands}
 use Rattle.tw_policy.proofs.Late as late
 use Rattle.tw_policy.proofs.Late.{Since, from_since, since_all, since_earlier, since_older}
@@ -77,10 +77,10 @@ module _ (net : Net) (states : ℕ → State) where
   eliminates = record { first = λ v ribs. tt; more = λ n v ribs may. (ribs, may, refl) }
 
   -- the lists of so many rounds
-  abbrev pub IsListed : ℕ → ℕ → PathNo → Type 0
-  IsListed n v q = In q (left_after net states n v)
+  abbrev pub IsLeftAfterRounds : ℕ → ℕ → PathNo → Type 0
+  IsLeftAfterRounds n v q = In q (left_after net states n v)
 
-  pub lists : IsKept IsListed
+  pub lists : IsKept IsLeftAfterRounds
   lists = record {
     first = λ v ribs. elim (cases_Bool (v == 0)) [
       | inl b ↦ rw b (inl refl)
@@ -99,7 +99,7 @@ module _ (net : Net) (states : ℕ → State) where
 module _ (case : Case) (is : IsCase case) (begin : ℕ) (scripted : (e : Event) → In e (opening_events case.scenes) → e.time < begin) where
   module _ (t : ℕ) (ready : begin ≤ t) where
     -- a late part of a history has all of the script
-    pub is_whole : (v s : ℕ) (h : List Event) → begin ≤ s → Since s h (history case is t v) → IsWhole case is v h
+    pub is_whole : (v s : ℕ) (h : List Event) → begin ≤ s → Since s h (history case is t v) → HasWholeScript case is v h
     is_whole v s h after since =
         let opened = late.has_opened case is begin t scripted ready v s h after since in
         record {

@@ -13,7 +13,7 @@ use Rattle.tw_model.specs.Case.{Case, IsCase, opening_events, scene_events, simu
 use Rattle.tw_sim.specs.Simulation.{state}
 use Rattle.tw_sim.proofs.Members.{In, in_enumerate, in_from_all}
 use Rattle.tw_model.proofs.Openings.{opening_of}
-use Rattle.tw_policy.specs.OneList.{IsOneList, KeepsRanks, exchanges}
+use Rattle.tw_policy.specs.OneList.{IsOneList, LeavesRanks, exchanges}
 use Rattle.tw_policy.specs.Standing.{script_of, standing}
 use Rattle.tw_policy.proofs.Stand.{Stand, stand, stand_after, stand_more}
 use Rattle.tw_policy.proofs.Standing.{in_script}
@@ -50,7 +50,7 @@ no_swap n (scene.Restore t a b) h x (inr (inr z)) = absurd z
 no_swap n (scene.Forbid t v k) h x (inr z) = absurd z
 no_swap n (scene.Allow t v k) h x (inr z) = absurd z
 
-module _ (case : Case) (is : IsCase case) (keeps : KeepsRanks case) where
+module _ (case : Case) (is : IsCase case) (keeps : LeavesRanks case) where
   opening_no_swap : (x : Event) → In x (opening_events case.scenes) → swaps x.body ≡ false
   opening_no_swap x i =
       elim (opening_of case is x i) [

@@ -107,17 +107,17 @@ module _ (case : Case) (is : IsCase case) (v : ℕ) where
       ]
 
   -- a history that has all of its router's scripted events
-  pub record IsWhole (h : List Event) : Type 0 where
+  pub record HasWholeScript (h : List Event) : Type 0 where
     pub falls : Falls h
     pub home : (e : Event) → In e h → e.dst ≡ v
     pub opened : (e : Event) → In e (opening_events case.scenes) → e.dst ≡ v → In e h
     pub scripted : (e : Event) → In e h → is_scripted e.body ≡ true → In e (opening_events case.scenes)
 
-  scripted_too : (h k : List Event) → IsWhole h → IsWhole k → (e : Event) → In e (scripted_in h) → In e (scripted_in k)
+  scripted_too : (h k : List Event) → HasWholeScript h → HasWholeScript k → (e : Event) → In e (scripted_in h) → In e (scripted_in k)
   scripted_too h k mine others e i = grind (arith, in_filter, in_filtered)
 
   -- with all of its scripted events handled, a router stands as it does after every other such history
-  pub same_stand : (h k : List Event) → IsWhole h → IsWhole k → stand (state (simulation case) v h) ≡ stand (state (simulation case) v k)
+  pub same_stand : (h k : List Event) → HasWholeScript h → HasWholeScript k → stand (state (simulation case) v h) ≡ stand (state (simulation case) v k)
   same_stand h k mine others =
       let same = same_falls case is (scripted_in h) (scripted_in k)
       (falls-filter case is (λ e. is_scripted e.body) h mine.falls) (falls-filter case is (λ e. is_scripted e.body) k others.falls)

@@ -20,7 +20,7 @@ use Rattle.tw_model.proofs.Histories.{onward}
 use Rattle.tw_model.proofs.Lawful.{lawful}
 use Rattle.std.proofs.lemmas.List.{reverse-append}
 use Rattle.tw_policy.specs.Standing.{script_of, standing}
-use Rattle.tw_policy.proofs.Stand.{IsWhole, same_stand, stand}
+use Rattle.tw_policy.proofs.Stand.{HasWholeScript, same_stand, stand}
 
 module _ (case : Case) (is : IsCase case) where
   -- the later event first
@@ -77,7 +77,7 @@ module _ (case : Case) (is : IsCase case) where
       let same = times_script v e in
       in_times (simulation case) same_is e (script_of case v) (omega arith)
 
-  pub whole_script : (v : ℕ) → IsWhole case is v (script_of case v)
+  pub whole_script : (v : ℕ) → HasWholeScript case is v (script_of case v)
   whole_script v = record {
     falls = falls_of (script_of case v) (rising-insert_all back (simulation case).same order (mine v) [] tt)
         (λ e. let same = times_script v e in let fewer = times_filter (λ x. x.dst == v) e (opening_events case.scenes) in let once = openings_once case is e in omega arith);
@@ -86,7 +86,7 @@ module _ (case : Case) (is : IsCase case) where
     scripted = λ e i b. (in_script v e i).1;
   }
 
-  pub stands : (v : ℕ) (h : List Event) → IsWhole case is v h → stand (state (simulation case) v h) ≡ stand (standing case v)
+  pub stands : (v : ℕ) (h : List Event) → HasWholeScript case is v h → stand (state (simulation case) v h) ≡ stand (standing case v)
   stands v h whole = same_stand case is v h (script_of case v) whole (whole_script v)
 
   -- ---- the script handled, the oldest event first

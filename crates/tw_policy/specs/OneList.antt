@@ -28,5 +28,5 @@ exchanges (Forbid t v k) = false
 exchanges (Allow t v k) = false
 
 -- the script leaves the ranks as they are
-abbrev pub KeepsRanks : Case → Type 0
-KeepsRanks case = All (λ s. exchanges s ≡ false) case.scenes
+abbrev pub LeavesRanks : Case → Type 0
+LeavesRanks case = All (λ s. exchanges s ≡ false) case.scenes

@@ -4,7 +4,7 @@ use Rattle.tw_model.specs.Net.{Net}
 use Rattle.tw_model.specs.Case.{Case, IsCase}
 use Rattle.tw_model.specs.Quiet.{IsQuiet}
 use Rattle.tw_policy.specs.Alike.{AreAlike, AreAlikeNets}
-use Rattle.tw_policy.specs.OneList.{KeepsRanks}
+use Rattle.tw_policy.specs.OneList.{LeavesRanks}
 use Rattle.tw_policy.specs.Standing.{standing}
 
 -- from some time on nothing is pending
@@ -17,7 +17,7 @@ IsSafe case = (other : Case) → IsCase other → AreAlike case other → ComesT
 
 -- an instance that comes to rest after every script that leaves the ranks as they are, whatever the delays
 abbrev pub IsRobust : Net → Type 0
-IsRobust net = (case : Case) → IsCase case → AreAlikeNets net case.net → KeepsRanks case → ComesToRest case
+IsRobust net = (case : Case) → IsCase case → AreAlikeNets net case.net → LeavesRanks case → ComesToRest case
 
 -- once their scripts are over, the routers of both rank their paths alike
 abbrev pub RankAlike : Case → Case → Type 0

@@ -15,7 +15,7 @@ ghost use Rattle.tw_policy.specs.DisputeWheel.{IsDisputeWheel, Pivot};
 ghost use Rattle.tw_policy.specs.Elimination.{IsAtMost, IsScriptedBefore, IsSolvedIn, MayUse, after_rounds};
 ghost use Rattle.tw_policy.specs.Gadgets.{bad_gadget, disagree, found_in, good_gadget, naughty_gadget, numbered, pivot, ring_of_three};
 ghost use Rattle.tw_policy.specs.Left.{IsHalted, left_after, remaining, round_left};
-ghost use Rattle.tw_policy.specs.OneList.{IsOneList, KeepsRanks};
+ghost use Rattle.tw_policy.specs.OneList.{IsOneList, LeavesRanks};
 ghost use Rattle.tw_policy.specs.Safe.{ComesToRest, IsRobust, IsSafe, RankAlike};
 ghost use Rattle.tw_policy.specs.Search.{AreOnce, Differ, all_paths, is_one_of, search, total};
 ghost use Rattle.tw_policy.specs.Stable.{IsStableAssignment};
@@ -133,7 +133,7 @@ pub fn delays_do_not_matter()
 /// routers of a case stand after every script that leads to those ranks, whatever fails, comes back, is forbidden
 /// or allowed, and whatever the delays.
 pub fn one_list_rests()
-    ensures given { (case : Case) → IsCase case → KeepsRanks case → (place : PathNo → ℕ) → IsOneList case.net (opening case.net) place
+    ensures given { (case : Case) → IsCase case → LeavesRanks case → (place : PathNo → ℕ) → IsOneList case.net (opening case.net) place
         → (n : ℕ) → ((q : PathNo) → place q < n) → (start most : ℕ) → IsScriptedBefore case start → IsAtMost case.net most
         → (t : ℕ) → after_rounds start most (suc n) ≤ t → IsQuiet case t }
     ensures standing { (case other : Case) → IsCase other → AreAlikeNets case.net other.net → RankAlike case other

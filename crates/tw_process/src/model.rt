@@ -72,8 +72,60 @@ pub trait ProcessModel {
     fn does_suit(&self, event: &Self::Event) -> bool
         ensures { result ≡ (behaviour self.now).suits event.now };
 
+    /// The process of this number handles an event: its state changes. After a refusal it is as it was.
+    fn receive(
+        &self,
+        number: u32,
+        state: &mut Self::State,
+        event: &Self::Event,
+    ) -> Result<Self::Note, Refused>
+        requires own { is_state self.now number state.old }
+        requires home { Self.Event.parts.dst event.now ≡ number }
+        requires suits { (behaviour self.now).suits event.now ≡ true }
+        requires time { Self.Event.parts.time event.now < LATEST }
+        ensures own { is_state self.now number state.new }
+        ensures state { OnOk result (known state.new ≡ (behaviour self.now).after (known state.old) event.now) }
+        ensures note { IfOk result (λ r. is_note self.now (known state.old) event.now r) }
+        ensures err { OnErr result (state.new ≡ state.old) }
+        ensures full { IsErrOf result CounterFull ↔ ((behaviour self.now).full (known state.old) event.now ≡ true) };
+
+    /// What handling an event sends, by the state that it left and its note, goes behind `sends`, which has room for it.
+    fn send(
+        &self,
+        number: u32,
+        state: &Self::State,
+        event: &Self::Event,
+        note: Self::Note,
+        sends: &mut Vec<Self::Event>,
+    )
+        requires own { is_state self.now number state.now }
+        requires home { Self.Event.parts.dst event.now ≡ number }
+        requires suits { (behaviour self.now).suits event.now ≡ true }
+        requires time { Self.Event.parts.time event.now < LATEST }
+        requires room { vec_len sends.old + (behaviour self.now).most ≤ vec_capacity sends.old }
+        requires note { (before : Self.Known) × is_note self.now before event.now note
+            × (known state.now ≡ (behaviour self.now).after before event.now)
+            × ((behaviour self.now).full before event.now ≡ false) }
+        ensures capacity { vec_capacity sends.old ≤ vec_capacity sends.new }
+        ensures sends { (before : Self.Known) → is_note self.now before event.now note
+            → known state.now ≡ (behaviour self.now).after before event.now
+            → sends.new.items ≡ sends.old.items ++ (behaviour self.now).sends before event.now };
+
+    /// The way back: from the state that handling the event left, with its note, to what the process knew before. It
+    /// takes no memory.
+    fn take_back(&self, number: u32, state: &mut Self::State, event: &Self::Event, note: Self::Note)
+        requires own { is_state self.now number state.old }
+        requires home { Self.Event.parts.dst event.now ≡ number }
+        requires suits { (behaviour self.now).suits event.now ≡ true }
+        requires note { (before : Self.Known) × is_note self.now before event.now note
+            × (known state.old ≡ (behaviour self.now).after before event.now) }
+        ensures own { is_state self.now number state.new }
+        ensures known { (before : Self.Known) → is_note self.now before event.now note
+            → known state.old ≡ (behaviour self.now).after before event.now → known state.new ≡ before };
+
     /// The forward handler: the process of this number handles an event. Its state changes, and what it sends goes
     /// behind `sends`, which has room for it. After a refusal both are as they were.
+    #[inline(always)]
     fn forward(
         &self,
         number: u32,
@@ -93,22 +145,16 @@ pub trait ProcessModel {
         ensures err { OnErr result (state.new ≡ state.old) }
         ensures unsent { OnErr result (sends.new.items ≡ sends.old.items) }
         ensures capacity { vec_capacity sends.old ≤ vec_capacity sends.new }
-        ensures full { IsErrOf result CounterFull ↔ ((behaviour self.now).full (known state.old) event.now ≡ true) };
-
-    /// The way back: from the state that handling the event left, with its note, to what the process knew before. It
-    /// takes no memory.
-    fn take_back(&self, number: u32, state: &mut Self::State, event: &Self::Event, note: Self::Note)
-        requires own { is_state self.now number state.old }
-        requires home { Self.Event.parts.dst event.now ≡ number }
-        requires suits { (behaviour self.now).suits event.now ≡ true }
-        requires note { (before : Self.Known) × is_note self.now before event.now note
-            × (known state.old ≡ (behaviour self.now).after before event.now) }
-        ensures own { is_state self.now number state.new }
-        ensures known { (before : Self.Known) → is_note self.now before event.now note
-            → known state.old ≡ (behaviour self.now).after before event.now → known state.new ≡ before };
+        ensures full { IsErrOf result CounterFull ↔ ((behaviour self.now).full (known state.old) event.now ≡ true) }
+    {
+        let note = self.receive(number, state, event)?;
+        self.send(number, state, event, note, sends);
+        Ok(note)
+    }
 
     /// The reverse handler: the way back, and what handling the event had sent goes behind `sends` once more, which
     /// has room for it.
+    #[inline(always)]
     fn reverse(
         &self,
         number: u32,
@@ -131,5 +177,9 @@ pub trait ProcessModel {
         ensures capacity { vec_capacity sends.old ≤ vec_capacity sends.new }
         ensures sends { (before : Self.Known) → is_note self.now before event.now note
             → known state.old ≡ (behaviour self.now).after before event.now
-            → sends.new.items ≡ sends.old.items ++ (behaviour self.now).sends before event.now };
+            → sends.new.items ≡ sends.old.items ++ (behaviour self.now).sends before event.now }
+    {
+        self.send(number, state, event, note, sends);
+        self.take_back(number, state, event, note);
+    }
 }

@@ -16,7 +16,7 @@ use tw_run::{Asked, Dealing, Gate, Seat, Tally, run_io};
 use tw_sim::Cancel;
 
 /// What is told of a run.
-#[derive(Drop)]
+#[derive(Default, Drop)]
 struct Told {
     workers: AtomicU64,
     handled: AtomicU64,
@@ -25,15 +25,6 @@ struct Told {
 }
 
 impl Told {
-    fn new() -> Told {
-        Told {
-            workers: AtomicU64::new(0),
-            handled: AtomicU64::new(0),
-            undone: AtomicU64::new(0),
-            committed: AtomicU64::new(0),
-        }
-    }
-
     /// Whether two workers went on, committed so many events, and undid all others that they handled.
     fn is_of_two(&self, events: u64) -> bool {
         let handled = self.handled.load(Ordering::SeqCst);
@@ -110,7 +101,7 @@ fn writes_whole<X: Threads + Wait + Sync + Clock>(rt: &X, alloc: Global) -> bool
         let Ok(mut page) = ShortPage::new(alloc, AMPLE, AMPLE) else {
             continue;
         };
-        let told = Told::new();
+        let told = Told::default();
         match run_by_two(rt, alloc, &mut page, &told) {
             Err(Cause::Memory | Cause::NoThread) if page.bytes().is_empty() => {}
             ended => {

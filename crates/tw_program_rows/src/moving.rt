@@ -13,27 +13,20 @@ use tw_parallel::{
     EndCause, Ended, OpenGate, Options, OrMemory, Outcome, Sim, UnfitOwners, run_until,
 };
 use tw_rows::cases::case;
-use tw_rows::made::holds_of_made;
+use tw_rows::made::{again, again_for_memory, holds_of_made};
 use tw_rows::texts::{DISAGREE, FORBIDDEN_PATH, RANK_EXCHANGE};
 use tw_seq::LoggedRun;
 use tw_sim::Cancel;
 
 /// Moves the routers of a run, once more where memory was refused.
 fn move_routers(sim: &mut Sim<'_>, owners: &[u32]) -> Result<(), OrMemory<UnfitOwners>> {
-    match sim.move_to(owners) {
-        Err(OrMemory::Memory) => sim.move_to(owners),
-        answer => answer,
-    }
+    again_for_memory(|| sim.move_to(owners))
 }
 
 /// Whether routers stay where a list has too few workers, or one that is not of the run.
 fn refuses_to_move(sim: &mut Sim<'_>) -> bool {
-    for owners in [[0, 1].as_slice(), &[0, 1, 2]] {
-        if move_routers(sim, owners) != Err(OrMemory::Fault(UnfitOwners)) {
-            return false;
-        }
-    }
-    true
+    let unfit = Err(OrMemory::Fault(UnfitOwners));
+    move_routers(sim, &[0, 1]) == unfit && move_routers(sim, &[0, 1, 2]) == unfit
 }
 
 /// Whether a run that has come to stop 3 moves all its routers to worker 1.
@@ -43,32 +36,24 @@ fn moves_at_3(sim: &mut Sim<'_>) -> bool {
 
 /// Whether a run goes on to stop 3, moves its routers there, and goes on to stop 20.
 fn goes_on_moved<X: Threads + Wait + Sync>(rt: &X, sim: Sim<'_>) -> bool {
-    match run_on(rt, sim, 3) {
-        Ok(mut sim) => {
-            let has_moved = moves_at_3(&mut sim);
-            goes_on_to_20(rt, sim) && has_moved
-        }
-        Err(_) => false,
-    }
+    run_on(rt, sim, 3).is_ok_and(|mut sim| {
+        let has_moved = moves_at_3(&mut sim);
+        goes_on_to_20(rt, sim) && has_moved
+    })
 }
 
 /// Whether the run of a case moves its routers between two stops.
 fn moves_between<X: Threads + Wait + Sync>(rt: &X, alloc: Global, case: &Case) -> bool {
-    match sim(alloc, case) {
-        Ok(mut sim) => {
-            let stay = refuses_to_move(&mut sim);
-            goes_on_moved(rt, sim) && stay
-        }
-        Err(_) => false,
-    }
+    sim(alloc, case).is_ok_and(|mut sim| {
+        let stay = refuses_to_move(&mut sim);
+        goes_on_moved(rt, sim) && stay
+    })
 }
 
 #[test]
 fn routers_move_to_other_workers_between_runs(rt: HostRuntime) {
-    let Ok(case) = case(rt.alloc(), DISAGREE) else {
-        panic!(rt; "the case is refused")
-    };
-    assert!(rt; moves_between(&rt, rt.alloc(), &case));
+    let alloc = rt.alloc();
+    assert!(rt; case(alloc, DISAGREE).is_ok_and(|case| moves_between(&rt, alloc, &case)));
 }
 
 /// Numbers each of which follows from the one before.
@@ -145,10 +130,7 @@ fn run_to_20<'a, X: Threads + Wait + Sync>(
         if move_routers(&mut sim, &draws.owners(workers)).is_err() {
             return None;
         }
-        sim = match run_on_moved(rt, sim, stop, &draws.owners(workers)) {
-            Some(sim) => sim,
-            None => return None,
-        };
+        sim = run_on_moved(rt, sim, stop, &draws.owners(workers))?;
     }
     Some(sim)
 }
@@ -163,10 +145,7 @@ fn left_at_20(run: &mut LoggedRun<'_>) -> Option<Outcome> {
 
 /// What the run of a case on one thread leaves at stop 20.
 fn left_by_one_thread(alloc: Global, case: &Case) -> Option<Outcome> {
-    match logged_run(alloc, case) {
-        Ok(mut run) => left_at_20(&mut run),
-        Err(_) => None,
-    }
+    left_at_20(&mut logged_run(alloc, case).ok()?)
 }
 
 /// Whether two runs left the same events, routers and pending events.
@@ -177,9 +156,9 @@ fn is_same(left: &Outcome, other: &Outcome) -> bool {
         && left.pending.as_slice() == other.pending.as_slice()
 }
 
-/// Whether a run that keeps its events has left just this.
+/// Whether a run that retains its events has left just this.
 fn has_left(sim: &Sim<'_>, expected: &Outcome) -> bool {
-    sim.keeps_events() && matches!(outcome(sim), Ok(left) if is_same(&left, expected))
+    sim.retains_events() && matches!(outcome(sim), Ok(left) if is_same(&left, expected))
 }
 
 /// The run of a case as it begins, with so many workers, asked for once more where memory was refused.
@@ -191,10 +170,7 @@ fn sim_with<'a>(
 ) -> Result<Sim<'a>, AllocError>
     requires { 0 < workers }
 {
-    match Sim::open_with(alloc, case, workers, true, cancel) {
-        Err(_) => Sim::open_with(alloc, case, workers, true, cancel),
-        opened => opened,
-    }
+    again(|| Sim::open_with(alloc, case, workers, true, cancel))
 }
 
 /// Whether so many workers, between whom routers move at each tick, leave at stop 20 what one thread leaves.
@@ -226,25 +202,19 @@ fn all_end_as<X: Threads + Wait + Sync>(
     expected: &Outcome,
 ) -> bool {
     let mut draws = Draws { last: 38 };
-    for cancel in [Cancel::Aggressive, Cancel::Lazy] {
-        if !ends_as(rt, alloc, case, 3, cancel, &mut draws, expected)
-            || !ends_as(rt, alloc, case, 5, cancel, &mut draws, expected)
-        {
-            return false;
-        }
-    }
-    true
+    [Cancel::Aggressive, Cancel::Lazy].iter().all(|cancel| {
+        ends_as(rt, alloc, case, 3, *cancel, &mut draws, expected)
+            && ends_as(rt, alloc, case, 5, *cancel, &mut draws, expected)
+    })
 }
 
 /// Whether they end as one thread on the case of a text.
 fn ends_as_on_one_thread<X: Threads + Wait + Sync>(rt: &X, alloc: Global, text: &str) -> bool {
-    let Ok(case) = case(alloc, text) else {
-        return false;
-    };
-    match left_by_one_thread(alloc, &case) {
-        Some(expected) => all_end_as(rt, alloc, &case, &expected),
-        None => false,
-    }
+    case(alloc, text).is_ok_and(|case| {
+        left_by_one_thread(alloc, &case).is_some_and(|expected| {
+            all_end_as(rt, alloc, &case, &expected)
+        })
+    })
 }
 
 #[test]

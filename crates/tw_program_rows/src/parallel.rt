@@ -1,15 +1,15 @@
 //! A parallel run by calls, before its workers have taken a turn.
 
 ghost use Rattle.std.specs.Prelude.{◌≡◌, IfOk};
-ghost use Rattle.tw_parallel.specs.Sim.{KeepsEvents};
+ghost use Rattle.tw_parallel.specs.Sim.{RetainsEvents};
 
 use std::alloc::{AllocError, Global};
-use tw_event::{Body, Event, PathNo};
+use tw_event::{Event, PathNo};
 use tw_instance::Case;
 use tw_model::{Counters, Outcome, RouterEnd};
 use tw_parallel::{NotSettled, OrMemory, Sim, StopLower};
 use tw_rows::cases::case;
-use tw_rows::made::holds_of_made;
+use tw_rows::made::{again, again_for_memory, holds_of_made};
 use tw_rows::texts::DISAGREE;
 
 /// The run of a case as it begins, with two workers.
@@ -22,35 +22,22 @@ pub(crate) fn sim<'a>(alloc: Global, case: &'a Case) -> Result<Sim<'a>, AllocErr
     }
 }
 
-/// What a run leaves that keeps its events, asked for once more where memory was refused.
+/// What a run leaves that retains its events, asked for once more where memory was refused.
 pub(crate) fn outcome(sim: &Sim<'_>) -> Result<Outcome, OrMemory<NotSettled>>
-    requires { KeepsEvents sim.now }
+    requires { RetainsEvents sim.now }
 {
-    match sim.outcome(true) {
-        Err(OrMemory::Memory) => sim.outcome(true),
-        answer => answer,
-    }
+    again_for_memory(|| sim.outcome(true))
 }
 
-/// What a run has committed that keeps its events, asked for once more where memory was refused.
+/// What a run has committed that retains its events, asked for once more where memory was refused.
 pub(crate) fn committed(sim: &Sim<'_>) -> Result<Vec<Event>, AllocError>
-    requires { KeepsEvents sim.now }
+    requires { RetainsEvents sim.now }
 {
-    match sim.committed() {
-        Err(_) => sim.committed(),
-        found => found,
-    }
+    again(|| sim.committed())
 }
 
 /// Whether nothing is handled, and only the origin's start is pending.
 fn begins_so(outcome: &Outcome) -> bool {
-    let start = Event {
-        time: 0,
-        dst: 0,
-        src: 0,
-        seq: 0,
-        body: Body::Start,
-    };
     let untouched = RouterEnd {
         counters: Counters {
             sent: 0,
@@ -63,7 +50,7 @@ fn begins_so(outcome: &Outcome) -> bool {
     outcome.stop == 0
         && outcome.events.is_empty()
         && outcome.routers.as_slice() == &[untouched, untouched, untouched][..]
-        && outcome.pending.as_slice() == &[start][..]
+        && outcome.pending.as_slice() == &[Event::default()][..]
 }
 
 /// Whether a run refuses to tell what it leaves, or its shape.
@@ -79,7 +66,7 @@ fn is_at_0(sim: &Sim<'_>) -> bool {
 
 /// Whether a run is settled, with its events kept, and as it begins.
 fn is_settled_as_it_begins(sim: &Sim<'_>) -> bool {
-    sim.is_settled() && sim.keeps_events() && matches!(outcome(sim), Ok(left) if begins_so(&left))
+    sim.is_settled() && sim.retains_events() && matches!(outcome(sim), Ok(left) if begins_so(&left))
 }
 
 /// Whether the run of a case begins settled at stop 0, with its events kept.
@@ -89,20 +76,13 @@ fn begins_settled(alloc: Global, case: &Case) -> bool {
 
 #[test]
 fn a_run_that_begins_is_settled_at_stop_0(rt: HostRuntime) {
-    let Ok(case) = case(rt.alloc(), DISAGREE) else {
-        panic!(rt; "the case is refused")
-    };
-    assert!(rt; begins_settled(rt.alloc(), &case));
+    let alloc = rt.alloc();
+    assert!(rt; case(alloc, DISAGREE).is_ok_and(|case| begins_settled(alloc, &case)));
 }
 
 /// Whether a run refuses each of these as its stop, which stays 20.
 fn keeps_its_stop(sim: &mut Sim<'_>, stops: &[u64]) -> bool {
-    for stop in stops {
-        if sim.raise_stop(*stop) != Err(StopLower) || sim.stop() != 20 {
-            return false;
-        }
-    }
-    true
+    stops.iter().all(|stop| sim.raise_stop(*stop) == Err(StopLower) && sim.stop() == 20)
 }
 
 /// Whether the stop of a run rises to 20 and to no less, nor past its limit, and is then still to be reached.
@@ -113,11 +93,6 @@ fn raises_its_stop(sim: &mut Sim<'_>) -> bool {
         && is_refused(sim)
 }
 
-/// A run that was taken apart and put together.
-fn of_its_parts<'a>(sim: Sim<'a>) -> Sim<'a> {
-    Sim::of_parts(sim.into_parts())
-}
-
 /// Whether a run has stop 20 still to be reached.
 fn is_on_its_way_to_20(sim: &Sim<'_>) -> bool {
     sim.stop() == 20 && !sim.is_settled()
@@ -125,17 +100,14 @@ fn is_on_its_way_to_20(sim: &Sim<'_>) -> bool {
 
 /// Whether the run of a case raises its stop, which is still to be reached once it was taken apart.
 fn is_to_be_reached(alloc: Global, case: &Case) -> bool {
-    let Ok(mut sim) = sim(alloc, case) else {
-        return false;
-    };
-    let rises = raises_its_stop(&mut sim);
-    holds_of_made(Some(of_its_parts(sim)), |sim| is_on_its_way_to_20(sim)) && rises
+    sim(alloc, case).is_ok_and(|mut sim| {
+        let rises = raises_its_stop(&mut sim);
+        is_on_its_way_to_20(&Sim::of_parts(sim.into_parts())) && rises
+    })
 }
 
 #[test]
 fn a_stop_that_rises_is_still_to_be_reached(rt: HostRuntime) {
-    let Ok(case) = case(rt.alloc(), DISAGREE) else {
-        panic!(rt; "the case is refused")
-    };
-    assert!(rt; is_to_be_reached(rt.alloc(), &case));
+    let alloc = rt.alloc();
+    assert!(rt; case(alloc, DISAGREE).is_ok_and(|case| is_to_be_reached(alloc, &case)));
 }

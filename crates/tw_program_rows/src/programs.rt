@@ -77,23 +77,19 @@ const ACCEPTED: &str = "accepted nodes 3 links 3 paths 4 scenario 0\n";
 /// Whether each shorter page has a prefix of what the program writes on DISAGREE, and tells that
 /// it failed.
 fn fails_with_a_prefix(alloc: Global, asked: Asked, whole: &[u8], most: usize) -> bool {
-    for room in 0..whole.len() {
-        if !fails(alloc, asked, DISAGREE, room, most, &whole[..room]) {
-            return false;
-        }
-    }
-    true
+    (0..whole.len()).all(|room| fails(alloc, asked, DISAGREE, room, most, &whole[..room]))
 }
+
+/// What each program writes on DISAGREE.
+const WRITTEN: [(Asked, &str); 3] = [
+    (Asked::Seq { stop: 20 }, DISAGREE_LOG),
+    (Asked::Check, ACCEPTED),
+    (Asked::Upgrade, DISAGREE_UPGRADED),
+];
 
 #[test]
 fn a_sink_that_fails_has_a_prefix(rt: HostRuntime) {
-    let asked = Asked::Seq { stop: 20 };
-    let rows = [
-        (asked, DISAGREE_LOG),
-        (Asked::Check, ACCEPTED),
-        (Asked::Upgrade, DISAGREE_UPGRADED),
-    ];
-    for (asked, text) in rows {
+    for (asked, text) in WRITTEN {
         for most in [AMPLE, 1] {
             assert!(rt;
                 fails_with_a_prefix(rt.alloc(), asked, text.as_bytes(), most),
@@ -117,12 +113,7 @@ fn writes_bytes(alloc: Global, asked: Asked, written: &[u8]) -> bool {
 
 #[test]
 fn a_sink_may_take_a_byte_at_a_time(rt: HostRuntime) {
-    let asked = Asked::Seq { stop: 20 };
-    for (asked, text) in [
-        (asked, DISAGREE_LOG),
-        (Asked::Check, ACCEPTED),
-        (Asked::Upgrade, DISAGREE_UPGRADED),
-    ] {
+    for (asked, text) in WRITTEN {
         assert!(rt;
             writes_bytes(rt.alloc(), asked, text.as_bytes()),
             "{asked:?}"
@@ -138,8 +129,7 @@ fn writes_nothing(alloc: Global, asked: Asked, left: usize) -> bool {
 
 #[test]
 fn a_source_that_fails_leaves_nothing_written(rt: HostRuntime) {
-    let seq = Asked::Seq { stop: 20 };
-    for asked in [Asked::Check, Asked::Upgrade, seq] {
+    for (asked, _) in WRITTEN {
         for left in [0, 1, 20] {
             assert!(rt; writes_nothing(rt.alloc(), asked, left));
         }

@@ -1,14 +1,14 @@
 //! A parallel run of a router that has more events of one tick to handle than it has room for at first.
 
 use crate::parallel::{committed, sim};
-use std::alloc::{AllocError, Global};
+use std::alloc::Global;
 use std::sync::Wait;
 use std::thread::Threads;
 use tw_event::{Body, Event};
 use tw_instance::Case;
 use tw_parallel::{EndCause, Ended, OpenGate, Options, Sim, run_until};
 use tw_rows::cases::{case, many_exchanges};
-use tw_rows::made::holds_of_made;
+use tw_rows::made::{again, holds_of_made};
 
 /// How many events the run handles: the start, and 300 exchanges.
 const EVENTS: usize = 301;
@@ -29,23 +29,17 @@ fn event_at(place: usize) -> Event {
 
 /// Whether these are the first events of the run, each of them below the bound.
 fn are_first(committed: &[Event], bound: u64) -> bool {
-    for (place, event) in committed.iter().enumerate() {
-        if *event != event_at(place) || event.time >= bound {
-            return false;
-        }
-    }
-    committed.len() <= EVENTS
+    let is_so = |(place, event): (usize, &Event)| *event == event_at(place) && event.time < bound;
+    committed.len() <= EVENTS && committed.iter().enumerate().all(is_so)
 }
 
 /// How many events are committed, where these are the first of the run and below the bound.
 fn committed_count(sim: &Sim<'_>) -> Option<usize> {
-    if !sim.keeps_events() {
+    if !sim.retains_events() {
         return None;
     }
-    match committed(sim) {
-        Ok(committed) => are_first(&committed, sim.bound()).then_some(committed.len()),
-        Err(_) => None,
-    }
+    let committed = committed(sim).ok()?;
+    are_first(&committed, sim.bound()).then_some(committed.len())
 }
 
 /// Whether a run was refused memory or a thread, and what it has committed is of the run.
@@ -75,34 +69,18 @@ fn comes_to_20<X: Threads + Wait + Sync>(rt: &X, sim: Sim<'_>) -> bool {
     }
 }
 
-/// The text of one router and 300 exchanges, made once more where memory was refused.
-fn crowded(alloc: Global) -> Result<String, AllocError> {
-    match many_exchanges(alloc) {
-        Err(_) => many_exchanges(alloc),
-        made => made,
-    }
-}
-
 /// Whether the run of a case by two workers comes to stop 20.
 fn comes_to_its_end<X: Threads + Wait + Sync>(rt: &X, alloc: Global, case: &Case) -> bool {
-    match sim(alloc, case) {
-        Ok(sim) => comes_to_20(rt, sim),
-        Err(_) => false,
-    }
+    sim(alloc, case).is_ok_and(|sim| comes_to_20(rt, sim))
 }
 
-/// Whether that of the case with 300 exchanges does.
-fn holds<X: Threads + Wait + Sync>(rt: &X, alloc: Global) -> bool {
-    let Ok(text) = crowded(alloc) else {
-        return false;
-    };
-    match case(alloc, &text) {
-        Ok(case) => comes_to_its_end(rt, alloc, &case),
-        Err(_) => false,
-    }
+/// Whether that of the case of a text does.
+fn holds<X: Threads + Wait + Sync>(rt: &X, alloc: Global, text: &str) -> bool {
+    case(alloc, text).is_ok_and(|case| comes_to_its_end(rt, alloc, &case))
 }
 
 #[test]
 fn a_router_past_its_room_goes_on_where_memory_was_refused(rt: HostRuntime) {
-    assert!(rt; holds(&rt, rt.alloc()));
+    let alloc = rt.alloc();
+    assert!(rt; again(|| many_exchanges(alloc)).is_ok_and(|text| holds(&rt, alloc, &text)));
 }

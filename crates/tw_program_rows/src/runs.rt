@@ -11,11 +11,12 @@ use crate::devices::{AMPLE, ShortPage};
 use crate::texts::ALONE_LOG;
 use std::alloc::{AllocError, Global};
 use tw_device::Failed;
-use tw_event::{Body, Event, PathNo};
+use tw_event::{Event, PathNo};
 use tw_instance::{Case, Instance};
 use tw_model::{Counters, Outcome, RouterEnd};
 use tw_report::write_report;
 use tw_rows::cases::case;
+use tw_rows::made::again;
 use tw_rows::texts::{ALONE, DISAGREE};
 use tw_seq::{LoggedRun, OneThread, Running};
 use tw_shape::Verdict;
@@ -53,10 +54,7 @@ pub(crate) fn logged_run<'a>(alloc: Global, case: &'a Case) -> Result<LoggedRun<
 
 /// What a run leaves, asked for once more where memory was refused.
 pub(crate) fn left_by(run: &LoggedRun<'_>) -> Result<Outcome, AllocError> {
-    match run.outcome() {
-        Err(_) => run.outcome(),
-        left => left,
-    }
+    again(|| run.outcome())
 }
 
 /// Whether a run to stop 20 leaves seven events, and gives the same ones away, where memory is not refused.
@@ -70,19 +68,12 @@ fn gives_away(run: LoggedRun<'_>, left: &Outcome) -> bool {
 
 /// Whether a run tells what it leaves at stop 20, and gives the same away.
 fn leaves_its_events(run: LoggedRun<'_>) -> bool {
-    match left_by(&run) {
-        Ok(left) => gives_away(run, &left),
-        Err(_) => false,
-    }
+    left_by(&run).is_ok_and(|left| gives_away(run, &left))
 }
 
 /// Whether a run has handled six events, and just one is pending, of time 7.
 fn has_one_left(run: &LoggedRun<'_>) -> bool {
-    let pending = match run.pending() {
-        Err(_) => run.pending(),
-        pending => pending,
-    };
-    run.handled().len() == 6 && matches!(pending, Ok(pending) if is_the_last(&pending))
+    run.handled().len() == 6 && again(|| run.pending()).is_ok_and(|pending| is_the_last(&pending))
 }
 
 /// Whether a run that has handled nothing goes on to tick 7, and no earlier stop takes anything back.
@@ -117,33 +108,20 @@ fn goes_on(alloc: Global, case: &Case) -> bool {
 
 #[test]
 fn a_run_goes_on_to_a_later_stop(rt: HostRuntime) {
-    let Ok(case) = case(rt.alloc(), DISAGREE) else {
-        panic!(rt; "the case is refused")
-    };
-    assert!(rt; goes_on(rt.alloc(), &case));
+    let alloc = rt.alloc();
+    assert!(rt; case(alloc, DISAGREE).is_ok_and(|case| goes_on(alloc, &case)));
 }
 
 /// Whether a run without a log goes on to tick 7, and just one event is pending then, of time 7.
 fn comes_to_the_last(run: &mut OneThread<'_>) -> bool
     ensures { run.new.case ≡ run.old.case }
 {
-    if !run_to(run, 7) {
-        return false;
-    }
-    let pending = match run.pending() {
-        Err(_) => run.pending(),
-        pending => pending,
-    };
-    matches!(pending, Ok(pending) if is_the_last(&pending))
+    run_to(run, 7) && again(|| run.pending()).is_ok_and(|pending| is_the_last(&pending))
 }
 
 /// Whether a run without a log is quiet at stop 20, as one with a log.
 fn is_left_quiet(run: &OneThread<'_>) -> bool {
-    let left = match run.outcome_without_events() {
-        Err(_) => run.outcome_without_events(),
-        left => left,
-    };
-    matches!(left, Ok(outcome) if is_quiet_at_20(&outcome, 0))
+    again(|| run.outcome_without_events()).is_ok_and(|outcome| is_quiet_at_20(&outcome, 0))
 }
 
 /// Whether a run without a log goes on to stop 20, router 1 being on its path by the origin.
@@ -174,23 +152,14 @@ fn goes_on_without_a_log(alloc: Global, case: &Case) -> bool {
 
 #[test]
 fn a_run_without_a_log_ends_as_one_with_a_log(rt: HostRuntime) {
-    let Ok(case) = case(rt.alloc(), DISAGREE) else {
-        panic!(rt; "the case is refused")
-    };
-    assert!(rt; goes_on_without_a_log(rt.alloc(), &case));
+    let alloc = rt.alloc();
+    assert!(rt; case(alloc, DISAGREE).is_ok_and(|case| goes_on_without_a_log(alloc, &case)));
 }
 
 /// What the run of the origin alone to stop 10 leaves.
 fn alone(alloc: Global) -> Result<Outcome, AllocError>
     ensures { (net : Net) → IfOk result (λ outcome. HasPaths net (summary_of outcome)) }
 {
-    let start = Event {
-        time: 0,
-        dst: 0,
-        src: 0,
-        seq: 0,
-        body: Body::Start,
-    };
     let origin = RouterEnd {
         counters: Counters {
             sent: 0,
@@ -203,7 +172,7 @@ fn alone(alloc: Global) -> Result<Outcome, AllocError>
     Ok(Outcome {
         stop: 10,
         bound: 10,
-        events: Vec::from_slice(alloc, &[start])?,
+        events: Vec::from_slice(alloc, &[Event::default()])?,
         routers: Vec::from_slice(alloc, &[origin])?,
         pending: Vec::new(alloc),
         last_change: 0,
@@ -224,10 +193,7 @@ fn alone_at_last(alloc: Global) -> Result<Outcome, AllocError>
 fn page_at_last(alloc: Global, room: usize) -> Result<ShortPage, AllocError>
     ensures { IfOk result (λ page. page.failed ≡ false) }
 {
-    match ShortPage::new(alloc, room, AMPLE) {
-        Err(_) => ShortPage::new(alloc, room, AMPLE),
-        answer => answer,
-    }
+    again(|| ShortPage::new(alloc, room, AMPLE))
 }
 
 /// Whether writing the report on a page that takes `room` bytes ends so, with just this on the page.
@@ -261,8 +227,6 @@ fn is_whole_or_a_prefix(alloc: Global, case: &Case) -> bool {
 
 #[test]
 fn a_report_is_whole_or_a_prefix(rt: HostRuntime) {
-    let Ok(case) = case(rt.alloc(), ALONE) else {
-        panic!(rt; "the case is refused")
-    };
-    assert!(rt; is_whole_or_a_prefix(rt.alloc(), &case));
+    let alloc = rt.alloc();
+    assert!(rt; case(alloc, ALONE).is_ok_and(|case| is_whole_or_a_prefix(alloc, &case)));
 }

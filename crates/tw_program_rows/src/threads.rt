@@ -38,7 +38,7 @@ pub(crate) fn run_on<'a, X: Threads + Wait + Sync>(
 
 /// Whether the first events of the run, so many, are committed.
 fn has_committed(sim: &Sim<'_>, count: usize) -> bool {
-    sim.keeps_events()
+    sim.retains_events()
         && matches!(committed(sim), Ok(found) if events().get(..count) == Some(found.as_slice()))
 }
 
@@ -60,7 +60,7 @@ fn are_below(committed: &[Event], bound: u64) -> bool {
 
 /// Whether what is committed is of the run, and below the bound.
 fn has_committed_some(sim: &Sim<'_>, bound: u64) -> bool {
-    sim.keeps_events() && matches!(committed(sim), Ok(found) if are_below(&found, bound))
+    sim.retains_events() && matches!(committed(sim), Ok(found) if are_below(&found, bound))
 }
 
 /// Whether a run is settled with its first events, so many, committed.
@@ -97,23 +97,15 @@ fn settled_at<'a, X: Threads + Wait + Sync>(
 fn goes_on<X: Threads + Wait + Sync>(rt: &X, alloc: Global, case: &Case) -> bool {
     let mut run = sim(alloc, case).ok();
     for (stop, count) in [(3, 4), (7, 6), (20, 7)] {
-        run = match run {
-            Some(sim) => settled_at(rt, sim, stop, count),
-            None => None,
-        };
+        run = run.and_then(|sim| settled_at(rt, sim, stop, count));
     }
-    match run {
-        Some(sim) => refuses_19(rt, sim),
-        None => false,
-    }
+    run.is_some_and(|sim| refuses_19(rt, sim))
 }
 
 #[test]
 fn a_run_goes_on_to_later_stops_and_to_no_earlier_one(rt: HostRuntime) {
-    let Ok(case) = case(rt.alloc(), DISAGREE) else {
-        panic!(rt; "the case is refused")
-    };
-    assert!(rt; goes_on(&rt, rt.alloc(), &case));
+    let alloc = rt.alloc();
+    assert!(rt; case(alloc, DISAGREE).is_ok_and(|case| goes_on(&rt, alloc, &case)));
 }
 
 /// Whether a run was refused memory or a thread, and what it has committed is of the run, and below its bound.
@@ -145,18 +137,13 @@ fn comes_to_20<X: Threads + Wait + Sync>(rt: &X, sim: Sim<'_>) -> bool {
 
 /// Whether the run of a case comes to stop 20, also from where it ended early.
 fn goes_on_from_there<X: Threads + Wait + Sync>(rt: &X, alloc: Global, case: &Case) -> bool {
-    match sim(alloc, case) {
-        Ok(sim) => comes_to_20(rt, sim),
-        Err(_) => false,
-    }
+    sim(alloc, case).is_ok_and(|sim| comes_to_20(rt, sim))
 }
 
 #[test]
 fn a_run_that_ended_early_goes_on_from_there(rt: HostRuntime) {
-    let Ok(case) = case(rt.alloc(), DISAGREE) else {
-        panic!(rt; "the case is refused")
-    };
-    assert!(rt; goes_on_from_there(&rt, rt.alloc(), &case));
+    let alloc = rt.alloc();
+    assert!(rt; case(alloc, DISAGREE).is_ok_and(|case| goes_on_from_there(&rt, alloc, &case)));
 }
 
 /// How often a worker looks for another before it goes on without it.
@@ -173,21 +160,28 @@ fn is_raised(flag: &AtomicBool) -> bool {
     false
 }
 
-/// The bounds that the seats of two workers showed last, and that of worker 1 after its first turn.
-#[derive(Drop)]
-struct Bounds {
+/// What two workers show one another, and the bounds that their seats showed last; and the bound of worker 1 after its
+/// first turn.
+#[derive(Default, Drop)]
+struct Shown {
+    has_come_0: AtomicBool,
+    has_come_1: AtomicBool,
+    has_missed: AtomicBool,
     last_of_0: AtomicU64,
     last_of_1: AtomicU64,
     first_of_1: AtomicU64,
 }
 
-impl Bounds {
-    fn new() -> Bounds {
-        Bounds {
-            last_of_0: AtomicU64::new(0),
-            last_of_1: AtomicU64::new(0),
-            first_of_1: AtomicU64::new(0),
+impl Shown {
+    fn wait_for(&self, flag: &AtomicBool) {
+        if !is_raised(flag) {
+            self.has_missed.store(true, Ordering::SeqCst);
         }
+    }
+
+    fn meet(&self, own: &AtomicBool, other: &AtomicBool) {
+        own.store(true, Ordering::SeqCst);
+        self.wait_for(other);
     }
 
     fn note(&self, seat: &Seat, turn: u64) {
@@ -202,91 +196,45 @@ impl Bounds {
         }
     }
 
+    /// Whether neither worker has waited in vain, and both were shown this bound last.
     fn ended_at(&self, stop: u64) -> bool {
-        self.last_of_0.load(Ordering::SeqCst) == stop
+        !self.has_missed.load(Ordering::SeqCst)
+            && self.last_of_0.load(Ordering::SeqCst) == stop
             && self.last_of_1.load(Ordering::SeqCst) == stop
     }
 }
 
 /// Worker 0 before it takes the table for the second time and worker 1 before it does for the first wait
 /// for each other there.
-#[derive(Drop)]
-struct Crossing {
-    has_come_0: AtomicBool,
-    has_come_1: AtomicBool,
-    has_missed: AtomicBool,
-    bounds: Bounds,
-}
-
-impl Crossing {
-    fn new() -> Crossing {
-        Crossing {
-            has_come_0: AtomicBool::new(false),
-            has_come_1: AtomicBool::new(false),
-            has_missed: AtomicBool::new(false),
-            bounds: Bounds::new(),
-        }
-    }
-
-    fn meet(&self, own: &AtomicBool, other: &AtomicBool) {
-        own.store(true, Ordering::SeqCst);
-        if !is_raised(other) {
-            self.has_missed.store(true, Ordering::SeqCst);
-        }
-    }
-}
+#[derive(Default, Drop)]
+struct Crossing(Shown);
 
 impl Gate for Crossing {
     fn handling<R: Wait>(&self, _rt: &R, _worker: u32, _turn: u64) {}
 
     fn enter<R: Wait>(&self, _rt: &R, worker: u32, turn: u64) {
         match (worker, turn) {
-            (0, 2) => self.meet(&self.has_come_0, &self.has_come_1),
-            (1, 1) => self.meet(&self.has_come_1, &self.has_come_0),
+            (0, 2) => self.0.meet(&self.0.has_come_0, &self.0.has_come_1),
+            (1, 1) => self.0.meet(&self.0.has_come_1, &self.0.has_come_0),
             _ => {}
         }
     }
 
     fn turned(&self, seat: &Seat, turn: u64) {
-        self.bounds.note(seat, turn);
+        self.0.note(seat, turn);
     }
 }
 
 /// Worker 0 handles nothing before worker 1 has had its second turn, and worker 1 nothing before worker 0
 /// is about to.
-#[derive(Drop)]
-struct Overtaking {
-    has_begun_0: AtomicBool,
-    has_turned_1: AtomicBool,
-    has_missed: AtomicBool,
-    bounds: Bounds,
-}
-
-impl Overtaking {
-    fn new() -> Overtaking {
-        Overtaking {
-            has_begun_0: AtomicBool::new(false),
-            has_turned_1: AtomicBool::new(false),
-            has_missed: AtomicBool::new(false),
-            bounds: Bounds::new(),
-        }
-    }
-
-    fn wait_for(&self, flag: &AtomicBool) {
-        if !is_raised(flag) {
-            self.has_missed.store(true, Ordering::SeqCst);
-        }
-    }
-}
+#[derive(Default, Drop)]
+struct Overtaking(Shown);
 
 impl Gate for Overtaking {
     fn handling<R: Wait>(&self, _rt: &R, worker: u32, turn: u64) {
         match (worker, turn) {
-            (0, 1) => {
-                self.has_begun_0.store(true, Ordering::SeqCst);
-                self.wait_for(&self.has_turned_1);
-            }
-            (1, 1) => self.wait_for(&self.has_begun_0),
+            (0, 1) => self.0.meet(&self.0.has_come_0, &self.0.has_come_1),
+            (1, 1) => self.0.wait_for(&self.0.has_come_0),
             _ => {}
         }
     }
@@ -294,9 +242,9 @@ impl Gate for Overtaking {
     fn enter<R: Wait>(&self, _rt: &R, _worker: u32, _turn: u64) {}
 
     fn turned(&self, seat: &Seat, turn: u64) {
-        self.bounds.note(seat, turn);
+        self.0.note(seat, turn);
         if seat.worker() == 1 && turn == 2 {
-            self.has_turned_1.store(true, Ordering::SeqCst);
+            self.0.has_come_1.store(true, Ordering::SeqCst);
         }
     }
 }
@@ -328,52 +276,34 @@ fn passes<G: Gate + Sync, X: Threads + Wait + Sync>(
     case: &Case,
     gate: &G,
 ) -> Option<bool> {
-    match Sim::open(alloc, case, 2, true) {
-        Ok(sim) => comes_through(rt, sim, gate),
-        Err(_) => None,
-    }
+    comes_through(rt, Sim::open(alloc, case, 2, true).ok()?, gate)
 }
 
 /// Whether two workers overlap on a case, the table's bound being 1 after the first turn of worker 1; `None` where
 /// memory or a thread was refused.
 fn overlap<X: Threads + Wait + Sync>(rt: &X, alloc: Global, case: &Case) -> Option<bool> {
-    let gate = Crossing::new();
+    let gate = Crossing::default();
     let has_passed = passes(rt, alloc, case, &gate)?;
-    Some(
-        has_passed
-            && !gate.has_missed.load(Ordering::SeqCst)
-            && gate.bounds.ended_at(20)
-            && gate.bounds.first_of_1.load(Ordering::SeqCst) == 1,
-    )
+    Some(has_passed && gate.0.ended_at(20) && gate.0.first_of_1.load(Ordering::SeqCst) == 1)
 }
 
 #[test]
 fn workers_overlap(rt: HostRuntime) {
-    let Ok(case) = case(rt.alloc(), DISAGREE) else {
-        panic!(rt; "the case is refused")
-    };
-    let told = match overlap(&rt, rt.alloc(), &case) {
-        None => overlap(&rt, rt.alloc(), &case),
-        told => told,
-    };
-    assert!(rt; told == Some(true));
+    let alloc = rt.alloc();
+    let told = |case: &Case| overlap(&rt, alloc, case).or_else(|| overlap(&rt, alloc, case));
+    assert!(rt; case(alloc, DISAGREE).is_ok_and(|case| told(&case) == Some(true)));
 }
 
 /// Whether one worker overtakes another that handles an event; `None` where memory or a thread was refused.
 fn overtake<X: Threads + Wait + Sync>(rt: &X, alloc: Global, case: &Case) -> Option<bool> {
-    let gate = Overtaking::new();
+    let gate = Overtaking::default();
     let has_passed = passes(rt, alloc, case, &gate)?;
-    Some(has_passed && !gate.has_missed.load(Ordering::SeqCst) && gate.bounds.ended_at(20))
+    Some(has_passed && gate.0.ended_at(20))
 }
 
 #[test]
 fn handling_happens_off_the_table(rt: HostRuntime) {
-    let Ok(case) = case(rt.alloc(), DISAGREE) else {
-        panic!(rt; "the case is refused")
-    };
-    let told = match overtake(&rt, rt.alloc(), &case) {
-        None => overtake(&rt, rt.alloc(), &case),
-        told => told,
-    };
-    assert!(rt; told == Some(true));
+    let alloc = rt.alloc();
+    let told = |case: &Case| overtake(&rt, alloc, case).or_else(|| overtake(&rt, alloc, case));
+    assert!(rt; case(alloc, DISAGREE).is_ok_and(|case| told(&case) == Some(true)));
 }

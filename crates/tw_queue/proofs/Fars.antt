@@ -14,7 +14,7 @@ use Rattle.tw_sim.proofs.Ordered.{one_cases}
 use Rattle.tw_ordered.specs.Buckets.{together}
 use Rattle.tw_queue.specs.Far.{AreFar, bucket_of}
 use Rattle.tw_ordered.specs.InOrder.{earlier, in_order, least_with}
-use Rattle.tw_queue.specs.Times.{AreApart, IsLeastTime}
+use Rattle.tw_queue.specs.Times.{AreNearFirst, IsLeastTime}
 use Rattle.tw_ordered.specs.Times.{never}
 use Rattle.tw_queue.specs.declared.far.FarEvents.TheInside.{Inside}
 use Rattle.tw_ordered.proofs.Ordered.{in_order-inserted, in_order-taken, times-in_order}
@@ -127,7 +127,7 @@ module _ (a : Inside) (v : AreFar a) (p : ℕ) (within : p < 16) (qs : List Even
       after_soonest : (d : Event) → 0 < times event_same d (together (set a.buckets p qs)) → a.soonest < d.time
       after_soonest d there = grind (arith, all_less, tick_less, cases_eq, times-set, inside, own, times-placed, times-filter_no, not, same_time)
 
-      pub tick_apart : AreApart near (in_order event_before (together (set a.buckets p qs)))
+      pub tick_apart : AreNearFirst near (in_order event_before (together (set a.buckets p qs)))
       tick_apart d e h k = grind (arith, at_soonest, times-in_order, event_law, set, after_soonest)
 
 -- no event is at the last tick

@@ -10,7 +10,7 @@ use Rattle.tw_sim.specs.Ordered.{insert, one, take_out, times}
 use Rattle.tw_sim.specs.Rising.{IsRising}
 use Rattle.tw_sim.proofs.Ordered.{one_cases}
 use Rattle.tw_ordered.specs.InOrder.{in_order}
-use Rattle.tw_queue.specs.Times.{AreApart}
+use Rattle.tw_queue.specs.Times.{AreNearFirst}
 use Rattle.tw_ordered.proofs.Ordered.{cases_zero, in_order_removed, rising-in_order, take_out_none, times-take_out}
 use Rattle.tw_ordered.proofs.Events.{event_law, first_is_least, first_of_least, no_first, not_before_first, in_order_rising, nothing}
 use Rattle.tw_ordered.proofs.Lists.{times-append}
@@ -57,7 +57,7 @@ module _ (near far now : List Event) (are : in_order event_before (near ++ far) 
       ]
 
   -- the first of all
-  module _ (rising : IsRising event_before event_same near) (apart : AreApart near far) where
+  module _ (rising : IsRising event_before event_same near) (apart : AreNearFirst near far) where
     pub first_near : (x : Event) → Some x ≡ slice_get near 0 → Some x ≡ slice_get now 0
     first_near x h =
         let l = first_is_least x near near rising (λ y. refl) (sym h) in
@@ -77,9 +77,9 @@ module _ (near far now : List Event) (are : in_order event_before (near ++ far) 
       ap (λ xs. slice_get xs 0) (sym (in_order_rising far rising) ∙ ap (λ xs. in_order event_before (xs ++ far)) (sym empty) ∙ are)
 
 -- what is near stays before what is far
-module _ (near far : List Event) (apart : AreApart near far) (e : Event) where
+module _ (near far : List Event) (apart : AreNearFirst near far) (e : Event) where
   pub apart_near : (r : Result Unit AllocError) (new : List Event) → OnOk r (new ≡ insert event_before e near) → OnErr r (new ≡ near)
-      → ((d : Event) → 0 < times event_same d far → e.time < d.time) → AreApart new far
+      → ((d : Event) → 0 < times event_same d far → e.time < d.time) → AreNearFirst new far
   apart_near (Ok u) new h k soon d x there other =
       let n = inserted_counts d e near new h in
       elim (one_cases event_before event_same event_law d e) [
@@ -88,7 +88,7 @@ module _ (near far : List Event) (apart : AreApart near far) (e : Event) where
       ]
   apart_near (Err f) new h k soon d x there other = apart d x (subst (λ ys. 0 < times event_same d ys) k there) other
 
-  pub apart_far : (new : List Event) → new ≡ insert event_before e far → ((d : Event) → 0 < times event_same d near → d.time < e.time) → AreApart near new
+  pub apart_far : (new : List Event) → new ≡ insert event_before e far → ((d : Event) → 0 < times event_same d near → d.time < e.time) → AreNearFirst near new
   apart_far new h late d x there other =
       let n = inserted_counts x e far new h in
       elim (one_cases event_before event_same event_law x e) [

@@ -10,7 +10,7 @@ use Rattle.tw_ordered.specs.Buckets.{IsPlaced}
 use Rattle.tw_queue.specs.declared.queue_table.QueueTable.TheInside.{Inside}
 
 -- each queue is in order, has events of its router alone, before the last tick, and its first time stands in the row
-pub record IsTable (a : Inside) : Type 0 where
+pub record IsQueueTable (a : Inside) : Type 0 where
   pub placed : IsPlaced (λ e. e.dst) a.queues.items
   pub rising : (r : ℕ) → IsRising event_before event_same (slice_index_or a.queues.items r [])
   pub early : (r : ℕ) (e : Event) → 0 < times event_same e (slice_index_or a.queues.items r []) → e.time < never

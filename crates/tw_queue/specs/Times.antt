@@ -13,8 +13,8 @@ pub record IsLeastTime (events : List Event) (time : ℕ) : Type 0 where
   pub none : events ≡ [] → time ≡ never
 
 -- each of the near events is before all of the far ones, by their times
-abbrev pub AreApart : List Event → List Event → Type 0
-AreApart near far = (d e : Event) → 0 < times event_same d near → 0 < times event_same e far → d.time < e.time
+abbrev pub AreNearFirst : List Event → List Event → Type 0
+AreNearFirst near far = (d e : Event) → 0 < times event_same d near → 0 < times event_same e far → d.time < e.time
 
 -- the events in buckets, where there are buckets
 abbrev pub in_buckets : {Z : Type 0} → Option (Box (List Event) Z) → List Event

@@ -5,7 +5,7 @@ ghost use Rattle.std.specs.Bool.{OnFalse, OnTrue};
 ghost use Rattle.std.specs.Option.{option_copied};
 ghost use Rattle.tw_event.specs.declared.event.Event.{Event as AnEvent};
 ghost use Rattle.tw_event.specs.Order.{event_before, event_same};
-ghost use Rattle.tw_queue.specs.Times.{AreApart, in_buckets};
+ghost use Rattle.tw_queue.specs.Times.{AreNearFirst, in_buckets};
 ghost use Rattle.tw_sim.specs.Ordered.{insert, take_out, times};
 ghost use Rattle.tw_sim.specs.Rising.{IsRising};
 
@@ -114,7 +114,7 @@ impl BucketQueue {
 // are far, unless it is no later than all of the near ones.
 #[inline(always)]
 fn is_near(near: &OrderedQueue, far: &Option<Box<FarEvents>>, time: u64) -> bool
-    ensures near { OnTrue result ((e d : AnEvent) → e.time ≡ time → 0 < times event_same d (in_buckets far.now) → AreApart near.now (in_buckets far.now) → e.time < d.time) }
+    ensures near { OnTrue result ((e d : AnEvent) → e.time ≡ time → 0 < times event_same d (in_buckets far.now) → AreNearFirst near.now (in_buckets far.now) → e.time < d.time) }
     ensures far { OnFalse result ((e d : AnEvent) → e.time ≡ time → 0 < times event_same d near.now → d.time < e.time) }
 {
     let is_all = is_empty(far);
@@ -178,7 +178,7 @@ fn remove_far(far: &mut Option<Box<FarEvents>>, event: &Event) -> bool
 fn move_tick(near: &mut OrderedQueue, far: &mut Option<Box<FarEvents>>)
     requires { near.old ≡ [] }
     ensures all { (e : AnEvent) → times event_same e near.new + times event_same e (in_buckets far.new) ≡ times event_same e (in_buckets far.old) }
-    ensures apart { AreApart near.new (in_buckets far.new) }
+    ensures apart { AreNearFirst near.new (in_buckets far.new) }
 {
     let Some(far) = far else {
         return;

@@ -7,7 +7,7 @@ ghost use Rattle.tw_event.specs.declared.event.Event.{Event as AnEvent};
 ghost use Rattle.tw_event.specs.Order.{event_before, event_same};
 ghost use Rattle.tw_ordered.specs.Buckets.{together};
 ghost use Rattle.tw_ordered.specs.InOrder.{least_with};
-ghost use Rattle.tw_queue.specs.Times.{AreApart};
+ghost use Rattle.tw_queue.specs.Times.{AreNearFirst};
 ghost use Rattle.tw_sim.specs.Ordered.{insert, take_out, times};
 ghost use Rattle.tw_sim.specs.Rising.{IsRising};
 
@@ -100,7 +100,7 @@ impl FarEvents {
     pub(crate) fn move_tick(&mut self, queue: &mut OrderedQueue)
         requires { queue.old ≡ [] }
         ensures all { (e : AnEvent) → times event_same e queue.new + times event_same e self.new ≡ times event_same e self.old }
-        ensures apart { AreApart queue.new self.new }
+        ensures apart { AreNearFirst queue.new self.new }
     {
         let soonest = self.soonest;
         let place = bucket_of(soonest);

@@ -30,13 +30,13 @@ impl Model for QueueTable {
     ghost use Rattle.tw_ordered.specs.Buckets.{together};
     ghost use Rattle.tw_ordered.specs.InOrder.{in_order};
     ghost use Rattle.tw_queue.specs.InTable.{Table};
-    ghost use Rattle.tw_queue.specs.Table.{IsTable};
+    ghost use Rattle.tw_queue.specs.Table.{IsQueueTable};
 
     ghost Value = { Table };
 
     ghost view = { λ a. record { routers = length a.queues.items; events = in_order event_before (together a.queues.items) } };
 
-    ghost invariant = { IsTable };
+    ghost invariant = { IsQueueTable };
 }
 
 impl QueueTable {

@@ -1,6 +1,5 @@
 -- Words with a space between each two: the first, and then each with a space before it.
-use Rattle.std.proofs.Common.{◌≡◌, ℕ, zero, suc, ◌-◌, ◌≤◌, Bool, true, false, List, [], ◌∷◌, ◌++◌, length, map, get_or, take, drop, refl, sym, ap, ◌∙◌, append-nil, append_assoc, arith}
-use Rattle.std.specs.Bool.{OnTrue}
+use Rattle.std.proofs.Common.{◌≡◌, ℕ, zero, suc, ◌-◌, ◌≤◌, List, [], ◌∷◌, ◌++◌, length, map, get_or, take, drop, refl, sym, ap, ◌∙◌, append-nil, append_assoc, arith}
 use Rattle.std.proofs.lemmas.List.{take_all}
 use Rattle.std.specs.List.{flat_map}
 use Rattle.tw_report.specs.Words.{with_spaces}
@@ -16,11 +15,6 @@ spaced_first text [] d h = absurd (omega arith)
 spaced_first text (w ∷ more) d h =
     let less : length (w ∷ more) - 1 ≡ length more = omega arith in
     rw (less, take_all (length more) more (omega arith)) (spaced_at text w more)
-
--- two texts that were added one after the other
-pub added_both : (done : Bool) (old one two first second whole : List ℕ) → one ≡ old ++ first → OnTrue done (two ≡ one ++ second) → whole ≡ first ++ second → OnTrue done (two ≡ old ++ whole)
-added_both true old one two first second whole h k e = k ∙ (ap (λ bs. bs ++ second) h ∙ (append_assoc old first second ∙ ap (λ bs. old ++ bs) (sym e)))
-added_both false old one two first second whole h k e = tt
 
 -- two texts that were written one after the other
 pub spelled_both : (old one two first second whole : List ℕ) → one ≡ old ++ first → two ≡ one ++ second → whole ≡ first ++ second → two ≡ old ++ whole

@@ -1,115 +1,62 @@
 //! Lines gathered in a piece of memory of one size, so that each is put at once.
 
-ghost use Rattle.std.specs.Prelude.{◌≡◌, [], ◌∷◌, ◌++◌, map};
-ghost use Rattle.std.specs.Bool.{OnTrue};
-ghost use Rattle.std.specs.Fmt.{decimal};
-ghost use Rattle.std.specs.List.{flat_map};
-ghost use Rattle.tw_report.specs.Words.{line, path_text, with_spaces, spaced_number, spaced_word, word_text};
+ghost use Rattle.std.specs.Prelude.{◌≡◌, false, [], Some};
+ghost use Rattle.tw_device.specs.Sink.{Device};
 
-use crate::words::Word;
 use arrayvec::ArrayVec;
-use itoa::Buffer;
+use std::marker::Model;
+use tw_device::{Failed, Sink};
 
 /// How many bytes are gathered at most. Only a line with a long path or name has more.
-pub const ROOM: usize = 256;
+const ROOM: usize = 256;
 
-/// Adds a line of these words, or answers that there is no room for it.
-pub fn gather_line(text: &mut ArrayVec<u8, ROOM>, words: &[Word<'_>]) -> bool
-    ensures { OnTrue result (text.new.items ≡ text.old.items ++ line (map word_text words.now)) }
-{
-    gather_words(text, words) && gather_byte(text, b'\n')
+/// A sink that gathers bytes, and fails where there is no room for them. It takes no memory.
+#[derive(Drop)]
+pub(crate) struct Gathered {
+    bytes: ArrayVec<u8, ROOM>,
+    failed: bool,
 }
 
-/// Adds words with a space between each two.
-fn gather_words(text: &mut ArrayVec<u8, ROOM>, words: &[Word<'_>]) -> bool
-    ensures { OnTrue result (text.new.items ≡ text.old.items ++ with_spaces (map word_text words.now)) }
-{
-    let [first, more @ ..] = words else {
-        return true;
-    };
-    gather_word(text, *first) && gather_more(text, more)
+impl Model for Gathered {
+    ghost Value = { Device };
+
+    ghost view = { λ g. record { written = Some g.bytes.items; failed = g.failed } };
 }
 
-/// Adds each word with a space before it.
-fn gather_more(text: &mut ArrayVec<u8, ROOM>, words: &[Word<'_>]) -> bool
-    ensures { OnTrue result (text.new.items ≡ text.old.items ++ flat_map spaced_word words.now) }
-{
-    for word in words {
-        if !gather_next(text, *word) {
-            return false;
+impl Gathered {
+    /// A sink that has gathered nothing yet.
+    pub(crate) fn new() -> Gathered
+        ensures { result ≡ record { written = Some []; failed = false } }
+    {
+        Gathered {
+            bytes: ArrayVec::new(),
+            failed: false,
         }
     }
-    true
-}
 
-/// Adds a space and a word.
-fn gather_next(text: &mut ArrayVec<u8, ROOM>, word: Word<'_>) -> bool
-    ensures { OnTrue result (text.new.items ≡ text.old.items ++ spaced_word word.entry) }
-{
-    gather_byte(text, b' ') && gather_word(text, word)
-}
-
-fn gather_word(text: &mut ArrayVec<u8, ROOM>, word: Word<'_>) -> bool
-    ensures { OnTrue result (text.new.items ≡ text.old.items ++ word_text word.entry) }
-{
-    match word {
-        Word::Name(name) => gather(text, name.as_bytes()),
-        Word::Number(number) => gather_number(text, number),
-        Word::Count(count) => gather(text, Buffer::new().format(count).as_bytes()),
-        Word::Path(nodes) => gather_path(text, nodes),
+    /// What it has gathered.
+    pub(crate) fn bytes(&self) -> &[u8]
+        ensures { self.now.written ≡ Some result.now }
+    {
+        self.bytes.as_slice()
     }
 }
 
-fn gather_number(text: &mut ArrayVec<u8, ROOM>, number: u64) -> bool
-    ensures { OnTrue result (text.new.items ≡ text.old.items ++ decimal number) }
-{
-    let mut buffer = Buffer::new();
-    gather(text, buffer.format(number).as_bytes())
-}
+impl Sink for Gathered {
+    ghost written = { λ g. g.written };
 
-fn gather_path(text: &mut ArrayVec<u8, ROOM>, nodes: &[u32]) -> bool
-    ensures { OnTrue result (text.new.items ≡ text.old.items ++ path_text nodes.now) }
-{
-    gather_byte(text, b'(') && gather_nodes(text, nodes) && gather_byte(text, b')')
-}
+    ghost failed = { λ g. g.failed };
 
-/// Adds numbers with a space between each two.
-fn gather_nodes(text: &mut ArrayVec<u8, ROOM>, nodes: &[u32]) -> bool
-    ensures { OnTrue result (text.new.items ≡ text.old.items ++ with_spaces (map decimal nodes.now)) }
-{
-    let [first, more @ ..] = nodes else {
-        return true;
-    };
-    gather_number(text, u64::from(*first)) && gather_more_nodes(text, more)
-}
-
-/// Adds each number with a space before it.
-fn gather_more_nodes(text: &mut ArrayVec<u8, ROOM>, nodes: &[u32]) -> bool
-    ensures { OnTrue result (text.new.items ≡ text.old.items ++ flat_map spaced_number nodes.now) }
-{
-    for node in nodes {
-        if !gather_next_number(text, u64::from(*node)) {
-            return false;
+    fn put(&mut self, bytes: &[u8]) -> Result<usize, Failed> {
+        self.failed = self.bytes.try_extend_from_slice(bytes).is_err();
+        if self.failed {
+            Err(Failed)
+        } else {
+            Ok(bytes.len())
         }
     }
-    true
-}
 
-/// Adds a space and a number.
-fn gather_next_number(text: &mut ArrayVec<u8, ROOM>, number: u64) -> bool
-    ensures { OnTrue result (text.new.items ≡ text.old.items ++ spaced_number number) }
-{
-    gather_byte(text, b' ') && gather_number(text, number)
-}
-
-fn gather_byte(text: &mut ArrayVec<u8, ROOM>, byte: u8) -> bool
-    ensures { OnTrue result (text.new.items ≡ text.old.items ++ byte ∷ []) }
-{
-    text.try_push(byte).is_ok()
-}
-
-fn gather(text: &mut ArrayVec<u8, ROOM>, bytes: &[u8]) -> bool
-    ensures { OnTrue result (text.new.items ≡ text.old.items ++ bytes.now) }
-{
-    text.try_extend_from_slice(bytes).is_ok()
+    fn has_failed(&self) -> bool {
+        self.failed
+    }
 }

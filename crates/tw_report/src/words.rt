@@ -6,8 +6,7 @@ ghost use Rattle.std.specs.List.{flat_map};
 ghost use Rattle.tw_device.specs.Sink.{Puts};
 ghost use Rattle.tw_report.specs.Words.{line, path_text, with_spaces, spaced_number, spaced_word, word_text};
 
-use crate::gather::gather_line;
-use arrayvec::ArrayVec;
+use crate::gather::Gathered;
 use itoa::Buffer;
 use tw_device::{Failed, Sink, put_all};
 
@@ -29,16 +28,15 @@ pub fn put_line<S: Sink>(sink: &mut S, words: &[Word<'_>]) -> Result<(), Failed>
     requires open { S.failed sink.old ≡ false }
     ensures { Puts result (S.written sink.old) (S.written sink.new) (S.failed sink.new) (line (map word_text words.now)) }
 {
-    let mut text = ArrayVec::new();
-    if gather_line(&mut text, words) {
-        put_all(sink, text.as_slice())
-    } else {
-        put_long_line(sink, words)
+    let mut line = Gathered::new();
+    match put_in_pieces(&mut line, words) {
+        Ok(()) => put_all(sink, line.bytes()),
+        Err(_) => put_in_pieces(sink, words),
     }
 }
 
-/// Puts a line of these words word by word.
-fn put_long_line<S: Sink>(sink: &mut S, words: &[Word<'_>]) -> Result<(), Failed>
+/// Puts a line of these words piece by piece.
+fn put_in_pieces<S: Sink>(sink: &mut S, words: &[Word<'_>]) -> Result<(), Failed>
     requires open { S.failed sink.old ≡ false }
     ensures { Puts result (S.written sink.old) (S.written sink.new) (S.failed sink.new) (line (map word_text words.now)) }
 {
@@ -85,7 +83,7 @@ fn put_word<S: Sink>(sink: &mut S, word: Word<'_>) -> Result<(), Failed>
     match word {
         Word::Name(name) => put_all(sink, name.as_bytes()),
         Word::Number(number) => put_number(sink, number),
-        Word::Count(count) => put_count(sink, count),
+        Word::Count(count) => put_all(sink, Buffer::new().format(count).as_bytes()),
         Word::Path(nodes) => put_path(sink, nodes),
     }
 }
@@ -96,14 +94,6 @@ fn put_number<S: Sink>(sink: &mut S, number: u64) -> Result<(), Failed>
 {
     let mut buffer = Buffer::new();
     put_all(sink, buffer.format(number).as_bytes())
-}
-
-fn put_count<S: Sink>(sink: &mut S, count: u128) -> Result<(), Failed>
-    requires open { S.failed sink.old ≡ false }
-    ensures { Puts result (S.written sink.old) (S.written sink.new) (S.failed sink.new) (decimal count) }
-{
-    let mut buffer = Buffer::new();
-    put_all(sink, buffer.format(count).as_bytes())
 }
 
 fn put_path<S: Sink>(sink: &mut S, nodes: &[u32]) -> Result<(), Failed>

@@ -60,20 +60,18 @@ fn goes_and_comes_back(alloc: Global, instance: &Instance, router: &mut Router<'
 fn is_handled(alloc: Global, instance: &Instance) -> bool
     requires { 1 < instance.now.nodes }
 {
-    match Router::new(alloc, instance, 1) {
-        Ok(mut router) => goes_and_comes_back(alloc, instance, &mut router),
-        Err(_) => false,
-    }
+    Router::new(alloc, instance, 1).is_ok_and(|mut router| {
+        goes_and_comes_back(alloc, instance, &mut router)
+    })
 }
 
 /// Whether router 1 handles the exchange on a trail.
 fn is_handled_on_a_trail(alloc: Global, instance: &Instance) -> bool
     requires { 1 < instance.now.nodes }
 {
-    match Router::new(alloc, instance, 1) {
-        Ok(router) => Trail::over(alloc, router).handle(instance, &SWAP).is_ok(),
-        Err(_) => false,
-    }
+    Router::new(alloc, instance, 1).is_ok_and(|router| {
+        Trail::over(alloc, router).handle(instance, &SWAP).is_ok()
+    })
 }
 
 /// Whether router 1 of a case handles the exchange.
@@ -83,10 +81,8 @@ fn holds(alloc: Global, instance: &Instance) -> bool {
 
 #[test]
 fn an_exchange_is_handled_and_undone(rt: HostRuntime) {
-    let Ok(case) = case(rt.alloc(), RANK_EXCHANGE) else {
-        panic!(rt; "refused")
-    };
-    assert!(rt; holds(rt.alloc(), case.instance()));
+    let alloc = rt.alloc();
+    assert!(rt; case(alloc, RANK_EXCHANGE).is_ok_and(|case| holds(alloc, case.instance())));
 }
 
 /// Whether the run of a case tells what is pending, and what it leaves.
@@ -98,8 +94,6 @@ fn tells_what_it_leaves(alloc: Global, case: &Case) -> bool {
 
 #[test]
 fn a_run_tells_what_it_leaves(rt: HostRuntime) {
-    let Ok(case) = case(rt.alloc(), DISAGREE) else {
-        panic!(rt; "refused")
-    };
-    assert!(rt; tells_what_it_leaves(rt.alloc(), &case));
+    let alloc = rt.alloc();
+    assert!(rt; case(alloc, DISAGREE).is_ok_and(|case| tells_what_it_leaves(alloc, &case)));
 }

@@ -1,39 +1,29 @@
 //! Command lines, and what they ask for. Those that are refused are in `checks/program_rows.py`.
 
+use crate::made::again;
 use std::alloc::Global;
 use tw_options::{CommandLine, CommandLineFault, options};
 
-/// What the words ask for; they are read once more where memory was refused.
-fn asked(alloc: Global, words: &[&str]) -> Result<CommandLine, CommandLineFault> {
-    match options(alloc, words) {
-        Err(CommandLineFault::Memory) => options(alloc, words),
-        answer => answer,
-    }
+/// What the words of a text ask for.
+fn asked(alloc: Global, text: &str) -> Result<CommandLine, CommandLineFault> {
+    let words: Vec<&str> = text.split_whitespace().collect(alloc)?;
+    options(alloc, words.as_slice())
 }
 
-/// Whether the words ask for just this.
-fn asks_for(alloc: Global, words: &[&str], line: CommandLine) -> bool {
-    matches!(asked(alloc, words), Ok(found) if found == line)
+/// Whether the words of a text ask for just this; they are read once more where memory was refused.
+fn asks_for(alloc: Global, text: &str, line: CommandLine) -> bool {
+    again(|| asked(alloc, text)).is_ok_and(|found| found == line)
 }
 
 /// Whether a trail has the greatest numbers that it may be given.
 fn trails_by_its_numbers(alloc: Global) -> bool {
-    let words = [
-        "twarp",
-        "trail",
-        "--router",
-        "1023",
-        "--stop",
-        "1000000000",
-        "--keep",
-        "0",
-    ];
+    let text = "twarp trail --router 1023 --stop 1000000000 --keep 0";
     let line = CommandLine::Trail {
         router: 1023,
         stop: 1_000_000_000,
         keep: 0,
     };
-    asks_for(alloc, &words, line)
+    asks_for(alloc, text, line)
 }
 
 /// Whether a run by one thread is logged and has checkpoints where it is asked to, and not else.
@@ -52,21 +42,8 @@ fn runs_by_its_numbers(alloc: Global) -> bool {
         progress: true,
         stats: true,
     };
-    asks_for(alloc, &["twarp", "seq", "--log", "--stop", "20"], logged)
-        && asks_for(
-            alloc,
-            &[
-                "twarp",
-                "seq",
-                "--progress",
-                "--stop",
-                "20",
-                "--stats",
-                "--every",
-                "2",
-            ],
-            every_second,
-        )
+    let text = "twarp seq --progress --stop 20 --stats --every 2";
+    asks_for(alloc, "twarp seq --log --stop 20", logged) && asks_for(alloc, text, every_second)
 }
 
 #[test]
@@ -77,29 +54,24 @@ fn the_numbers_given_are_those_asked_for(rt: HostRuntime) {
 
 #[test]
 fn a_replay_has_one_worker_where_no_number_is_given(rt: HostRuntime) {
-    let rows: [(&[&str], u64, u32, bool); 4] = [
-        (&["twarp", "replay", "--stop", "20"], 20, 1, false),
+    let rows = [
+        ("twarp replay --stop 20", 20, 1, false),
+        ("twarp replay --workers 3 --stop 1", 1, 3, false),
+        ("twarp replay --lazy --stop 20", 20, 1, true),
         (
-            &["twarp", "replay", "--workers", "3", "--stop", "1"],
-            1,
-            3,
-            false,
-        ),
-        (&["twarp", "replay", "--lazy", "--stop", "20"], 20, 1, true),
-        (
-            &["twarp", "replay", "--stop", "1000000000", "--workers", "64"],
+            "twarp replay --stop 1000000000 --workers 64",
             1_000_000_000,
             64,
             false,
         ),
     ];
-    for (words, stop, workers, lazy) in rows {
+    for (text, stop, workers, lazy) in rows {
         let line = CommandLine::Replay {
             stop,
             workers,
             lazy,
         };
-        assert!(rt; asks_for(rt.alloc(), words, line), "{words:?}");
+        assert!(rt; asks_for(rt.alloc(), text, line), "{text}");
     }
 }
 
@@ -118,29 +90,14 @@ fn chooses_its_workers(alloc: Global) -> bool {
         progress: false,
         stats: false,
     };
-    asks_for(alloc, &["twarp", "run", "--stop", "20"], line)
+    asks_for(alloc, "twarp run --stop 20", line)
 }
 
 /// Whether a run has all that it may be given.
 fn runs_with_all_that_it_may_be_given(alloc: Global) -> bool {
-    let words = [
-        "twarp",
-        "run",
-        "--log",
-        "--lazy",
-        "--blocks",
-        "--rotate",
-        "--progress",
-        "--stats",
-        "--batch",
-        "4096",
-        "--workers",
-        "64",
-        "--every",
-        "2",
-        "--stop",
-        "1000000000",
-    ];
+    let text = "\
+        twarp run --log --lazy --blocks --rotate --progress --stats --batch 4096 --workers 64 \
+        --every 2 --stop 1000000000";
     let line = CommandLine::Run {
         stop: 1_000_000_000,
         every: Some(2),
@@ -153,7 +110,7 @@ fn runs_with_all_that_it_may_be_given(alloc: Global) -> bool {
         progress: true,
         stats: true,
     };
-    asks_for(alloc, &words, line)
+    asks_for(alloc, text, line)
 }
 
 #[test]

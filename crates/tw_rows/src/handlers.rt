@@ -188,12 +188,10 @@ fn goes_by(
 fn goes_from_the_start(alloc: Global, instance: &Instance, lines: &[Line<'_>]) -> bool
     requires { 1 < instance.now.nodes }
 {
-    let Ok(router) = router(alloc, instance, NO_COUNTS) else {
-        return false;
-    };
-    let trail = &mut Trail::over(alloc, router);
-    let sends = &mut SmallVec::new(alloc);
-    goes_by(trail, instance, sends, lines)
+    router(alloc, instance, NO_COUNTS).is_ok_and(|router| {
+        let trail = &mut Trail::over(alloc, router);
+        goes_by(trail, instance, &mut SmallVec::new(alloc), lines)
+    })
 }
 
 /// A trail goes back to each earlier state.
@@ -261,46 +259,35 @@ const ALLOWED: [Line<'static>; 9] = [
     Line::Refuses(5, 4, Body::Forbid(3)),
 ];
 
-/// What a test shows of router 1.
-#[derive(Clone, Copy)]
-enum Row<'a> {
-    Trail(&'a [Line<'a>]),
-    AnotherSession,
-    LastButOne,
-    LastTwo,
-    ImpossibleCounters,
-}
-
-/// Whether a row holds of router 1 of a case of three routers.
-fn holds(alloc: Global, text: &str, row: Row<'_>) -> bool {
+/// Whether this holds of the instance of a case of three routers.
+fn holds<F: FnOnce(Global, &Instance) -> bool>(alloc: Global, text: &str, of_it: F) -> bool
+    requires { (x : _) → 1 < x.now.nodes → F.pre of_it alloc x }
+{
     let Ok(case) = case(alloc, text) else {
         return false;
     };
     let instance = case.instance();
-    instance.nodes() == 3 && holds_in(alloc, instance, row)
+    instance.nodes() == 3 && of_it(alloc, instance)
 }
 
-fn holds_in(alloc: Global, instance: &Instance, row: Row<'_>) -> bool
-    requires { 1 < instance.now.nodes }
+/// Whether this holds of router 1 of DISAGREE with these counts.
+fn holds_with<F: FnOnce(Global, &Instance, &mut Router<'_>) -> bool>(
+    alloc: Global,
+    counters: Counters,
+    of_it: F,
+) -> bool
+    requires { (x : _) (r : _) → x.now ≡ r.now.net → F.pre of_it alloc x r }
 {
-    match row {
-        Row::Trail(lines) => goes_from_the_start(alloc, instance, lines),
-        Row::AnotherSession => holds_with(alloc, instance, NO_COUNTS, row),
-        Row::LastButOne => holds_with(alloc, instance, counts(MOST_COUNTED - 1), row),
-        Row::LastTwo => holds_with(alloc, instance, counts(MOST_COUNTED - 2), row),
-        Row::ImpossibleCounters => refuses_impossible_counters(alloc, instance),
+    let Ok(case) = case(alloc, DISAGREE) else {
+        return false;
+    };
+    let instance = case.instance();
+    if instance.nodes() != 3 {
+        return false;
     }
-}
-
-/// Whether a row holds of router 1 with these counts.
-fn holds_with(alloc: Global, instance: &Instance, counters: Counters, row: Row<'_>) -> bool
-    requires { 1 < instance.now.nodes }
-{
-    match (router(alloc, instance, counters), row) {
-        (Ok(mut router), Row::AnotherSession) => takes_a_drop_back(alloc, instance, &mut router),
-        (Ok(mut router), Row::LastButOne) => is_full(alloc, instance, &mut router, counters),
-        (Ok(mut router), Row::LastTwo) => sends_the_last(alloc, instance, &mut router),
-        _ => false,
+    match router(alloc, instance, counters) {
+        Ok(mut router) => of_it(alloc, instance, &mut router),
+        Err(_) => false,
     }
 }
 
@@ -340,15 +327,14 @@ fn counts(sent: u64) -> Counters {
     }
 }
 
-/// Whether the router, which has these counts and may send once more, refuses an update that it would send on, and is as
-/// it was.
-fn is_full(alloc: Global, instance: &Instance, router: &mut Router<'_>, full: Counters) -> bool
+/// Whether the router, which may send once more, refuses an update that it would send on, and is as it was.
+fn is_full(alloc: Global, instance: &Instance, router: &mut Router<'_>) -> bool
     requires { instance.now ≡ router.old.net }
 {
     let sends = &mut SmallVec::new(alloc);
     handle(instance, router, &update(1, 0, 0, 1, 0), sends)
         == Err(OrMemory::Fault(Fault::CounterFull))
-        && router.counters() == full
+        && router.counters() == counts(MOST_COUNTED - 1)
         && router.rib() == PathNo::EMPTY
         && sends.is_empty()
 }
@@ -377,22 +363,24 @@ fn refuses_impossible_counters(alloc: Global, instance: &Instance) -> bool
     refused && router(alloc, instance, counters).is_ok()
 }
 
-/// What is shown of router 1, each with a name and the text of the case.
-const ROWS: [(&str, &str, Row<'static>); 9] = [
-    ("each state", DISAGREE, Row::Trail(&STATES)),
-    ("the rank row", DISAGREE, Row::Trail(&RANKS)),
-    ("an exchange", RANK_EXCHANGE, Row::Trail(&EXCHANGE)),
-    ("a forbidden path", DISAGREE, Row::Trail(&FORBIDDEN)),
-    ("an allowed path", DISAGREE, Row::Trail(&ALLOWED)),
-    ("another session", DISAGREE, Row::AnotherSession),
-    ("a full counter", DISAGREE, Row::LastButOne),
-    ("the last two counts", DISAGREE, Row::LastTwo),
-    ("impossible counters", DISAGREE, Row::ImpossibleCounters),
+/// What happens to router 1, each with a name and the text of the case.
+const TRAILS: [(&str, &str, &[Line<'static>]); 5] = [
+    ("each state", DISAGREE, &STATES),
+    ("the rank row", DISAGREE, &RANKS),
+    ("an exchange", RANK_EXCHANGE, &EXCHANGE),
+    ("a forbidden path", DISAGREE, &FORBIDDEN),
+    ("an allowed path", DISAGREE, &ALLOWED),
 ];
 
 #[test]
 fn router_1_goes_on_and_back(rt: HostRuntime) {
-    for (name, text, row) in &ROWS {
-        assert!(rt; holds(rt.alloc(), text, *row), "{name}");
+    let alloc = rt.alloc();
+    for (name, text, lines) in &TRAILS {
+        let goes = |alloc, net: &Instance| goes_from_the_start(alloc, net, lines);
+        assert!(rt; holds(alloc, text, goes), "{name}");
     }
+    assert!(rt; holds_with(alloc, NO_COUNTS, takes_a_drop_back));
+    assert!(rt; holds_with(alloc, counts(MOST_COUNTED - 1), is_full));
+    assert!(rt; holds_with(alloc, counts(MOST_COUNTED - 2), sends_the_last));
+    assert!(rt; holds(alloc, DISAGREE, refuses_impossible_counters));
 }

@@ -2,9 +2,10 @@
 
 ghost use Rattle.std.specs.Prelude.{◌≡◌, ◌<◌, ◌≤◌};
 
+use crate::events::update;
 use crate::made::again;
 use std::alloc::{AllocError, Global};
-use tw_event::{Body, Event, PathNo};
+use tw_event::{Event, PathNo};
 use tw_held::HeldSends;
 use tw_sim::Signed;
 
@@ -33,19 +34,10 @@ fn make_room(held: &mut HeldSends) -> Result<(), AllocError>
 type Sent = (u64, u32, u64);
 
 /// The update that was sent.
-fn event_of(update: Sent) -> Event
-    ensures { result.src ≡ update.1 }
+fn event_of(sent: Sent) -> Event
+    ensures { result.src ≡ sent.1 }
 {
-    Event {
-        time: update.0,
-        dst: 0,
-        src: update.1,
-        seq: update.2,
-        body: Body::Update {
-            path: PathNo::EMPTY,
-            session: 0,
-        },
-    }
+    update(sent.0, 0, sent.1, sent.2, PathNo::EMPTY)
 }
 
 /// What is done with held sends, or what they are.

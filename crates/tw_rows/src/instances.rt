@@ -1,39 +1,19 @@
 //! Instances and cases by calls, from items in place of a text.
 
+use crate::made::again;
 use crate::readings::is_written_as;
 use crate::texts::{DISAGREE, FORBIDDEN_PATH};
 use std::alloc::{AllocError, Global};
-use tw_event::{Body, Event, PathNo};
+use tw_event::{Event, PathNo};
 use tw_instance::{At, Case, Instance, Item, Link, OrMemory, PermittedPath, Rule, Scene};
-
-/// A link between two routers, with the delay from the first to the second and the delay back.
-fn link(first: u32, second: u32, delay: u64, back: u64) -> Link {
-    Link {
-        first,
-        second,
-        delay,
-        back,
-    }
-}
-
-/// Adds the path of these nodes, the first of them its router.
-fn add_path(
-    alloc: Global,
-    paths: &mut Vec<PermittedPath>,
-    owner: u32,
-    nodes: &[u32],
-) -> Result<(), AllocError> {
-    let nodes = Vec::from_slice(alloc, nodes)?;
-    paths.push(PermittedPath { owner, nodes })?;
-    Ok(())
-}
 
 /// The permitted paths of DISAGREE.
 fn paths(alloc: Global) -> Result<Vec<PermittedPath>, AllocError> {
     let rows: [(u32, &[u32]); 4] = [(1, &[1, 2, 0]), (1, &[1, 0]), (2, &[2, 1, 0]), (2, &[2, 0])];
     let mut paths = Vec::new(alloc);
     for (owner, nodes) in rows {
-        add_path(alloc, &mut paths, owner, nodes)?;
+        let nodes = Vec::from_slice(alloc, nodes)?;
+        paths.push(PermittedPath { owner, nodes })?;
     }
     Ok(paths)
 }
@@ -43,11 +23,13 @@ type Ends = (u32, u32, u64, u64);
 
 /// The links between these routers.
 fn links_of(alloc: Global, rows: &[Ends]) -> Result<Vec<Link>, AllocError> {
-    let mut links = Vec::new(alloc);
-    for row in rows {
-        links.push(link(row.0, row.1, row.2, row.3))?;
-    }
-    Ok(links)
+    let link = |row: &Ends| Link {
+        first: row.0,
+        second: row.1,
+        delay: row.2,
+        back: row.3,
+    };
+    rows.iter().map(link).collect(alloc)
 }
 
 /// The links of DISAGREE.
@@ -83,39 +65,21 @@ fn built(
     Case::build(alloc, version, instance, scenes).map_err(OrMemory::Fault)
 }
 
-/// The same, built once more where memory was refused.
+/// The same, built once more where it was refused.
 fn build(
     alloc: Global,
     version: u32,
     links: &[Ends],
     scenes: &[Scene],
 ) -> Result<Case, OrMemory<At>> {
-    match built(alloc, version, links, scenes) {
-        Err(OrMemory::Memory) => built(alloc, version, links, scenes),
-        Err(
-            OrMemory::Fault(
-                At {
-                    fault: OrMemory::Memory,
-                    ..
-                },
-            ),
-        ) => built(alloc, version, links, scenes),
-        answer => answer,
-    }
+    again(|| built(alloc, version, links, scenes))
 }
 
 /// Whether DISAGREE is written as its text, and begins with the origin's start alone.
 fn is_that_of_the_text(alloc: Global, case: &Case) -> bool {
-    let start = Event {
-        time: 0,
-        dst: 0,
-        src: 0,
-        seq: 0,
-        body: Body::Start,
-    };
     case.version() == 1
         && is_written_as(alloc, case, DISAGREE)
-        && case.opening(0) == Some(start)
+        && case.opening(0) == Some(Event::default())
         && case.opening(1) == None
 }
 

@@ -11,6 +11,7 @@ mod ample;
 pub mod cases;
 #[cfg(test)]
 mod command_lines;
+pub mod events;
 #[cfg(test)]
 mod handed_over;
 #[cfg(test)]

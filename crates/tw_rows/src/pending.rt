@@ -2,9 +2,10 @@
 
 ghost use Rattle.std.specs.Prelude.{◌≡◌, ◌<◌, IfOk};
 
+use crate::events::update;
 use crate::made::again;
 use std::alloc::{AllocError, Global};
-use tw_event::{Body, Event, PathNo};
+use tw_event::{Event, PathNo};
 use tw_queue::Pending;
 
 /// The time, the router and the number of an event that the origin sends.
@@ -14,16 +15,7 @@ pub(crate) type Offer = (u64, u32, u64);
 fn event_of(offered: Offer) -> Event
     ensures { result.dst ≡ offered.1 }
 {
-    Event {
-        time: offered.0,
-        dst: offered.1,
-        src: 0,
-        seq: offered.2,
-        body: Body::Update {
-            path: PathNo::ORIGIN,
-            session: 0,
-        },
-    }
+    update(offered.0, offered.1, 0, offered.2, PathNo::ORIGIN)
 }
 
 /// Pending events of three routers, none yet, which may be kept by time.
@@ -278,10 +270,9 @@ const APART: [Line<'static>; 9] = [
 
 /// Whether the lines hold of what is pending after these.
 fn goes_on(alloc: Global, by_time: bool, before: &[Line<'_>], lines: &[Line<'_>]) -> bool {
-    match nothing(alloc, by_time) {
-        Ok(mut pending) => goes_by(&mut pending, before) && goes_by(&mut pending, lines),
-        Err(_) => false,
-    }
+    nothing(alloc, by_time).is_ok_and(|mut pending| {
+        goes_by(&mut pending, before) && goes_by(&mut pending, lines)
+    })
 }
 
 /// What holds of pending events: a name, whether they are kept by time, what was done before, and what holds then.
@@ -320,22 +311,16 @@ fn comes_in_order(pending: &mut Pending, events: &mut [Event]) -> bool {
 
 /// Takes out the events whose numbers 3 divides, and tells whether each was there.
 fn removes_thirds(pending: &mut Pending, events: &[Event]) -> bool {
-    for event in events {
-        if event.seq % 3 == 0 && !pending.remove_one(event) {
-            return false;
-        }
-    }
-    true
+    events
+        .iter()
+        .all(|event| event.seq % 3 != 0 || pending.remove_one(event))
 }
 
 /// Takes out as many events as the list has others, and tells whether they came in its order.
 fn takes_others(pending: &mut Pending, events: &[Event]) -> bool {
-    for event in events {
-        if event.seq % 3 != 0 && !takes(pending, *event) {
-            return false;
-        }
-    }
-    true
+    events
+        .iter()
+        .all(|event| event.seq % 3 == 0 || takes(pending, *event))
 }
 
 /// Whether many events of a router come out as from a list of them.

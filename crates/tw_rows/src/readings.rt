@@ -11,10 +11,8 @@ use tw_text::{read_replay, read_steps, write_case};
 #[test]
 fn a_bound_and_the_end_are_one_step(rt: HostRuntime) {
     let alloc = rt.alloc();
-    let Ok(steps) = again_for_memory(|| read_steps(alloc, b"bound\nend\n")) else {
-        panic!(rt; "refused")
-    };
-    assert!(rt; steps.as_slice() == [Step::Bound].as_slice());
+    let steps = again_for_memory(|| read_steps(alloc, b"bound\nend\n"));
+    assert!(rt; steps.is_ok_and(|steps| steps.as_slice() == [Step::Bound].as_slice()));
 }
 
 /// Whether a replay has a case of one router, and one step.

@@ -4,14 +4,14 @@ use Rattle.std.proofs.lemmas.Bool.{le-ltb, ltb-true}
 use Rattle.tw_core.specs.Good.{IsGoodPart}
 use Rattle.tw_core.specs.Machine.{times_handled, times_loose}
 use Rattle.tw_core.specs.Parts.{SameSurplus}
-use Rattle.tw_rule.specs.Place.{IsFrom, IsPlace, Keeps, Place, whole}
+use Rattle.tw_rule.specs.Place.{IsPlace, NoneLooseBefore, Place, PreservesPlace, whole}
 use Rattle.tw_sim.proofs.Counts.{in_filter, none, times-filter-yes}
 use Rattle.tw_sim.proofs.Unique.{falling-filter, same_falling, sent_before}
 use Rattle.tw_sim.specs.Simulation.{IsLawful, Simulation, below, sent, times}
 
 module _ {S E : Type 0} (m : Simulation S E) (law : IsLawful m) (stop t : ℕ) where
   -- what one place has handled up to n, another has that has the same surplus, where they agree before n
-  over : (n : ℕ) (p q : Place E) → IsGoodPart m 0 (whole stop p) → IsGoodPart m 0 (whole stop q) → IsFrom m t p → IsFrom m t q → SameSurplus m (whole 0 p) (whole 0 q)
+  over : (n : ℕ) (p q : Place E) → IsGoodPart m 0 (whole stop p) → IsGoodPart m 0 (whole stop q) → NoneLooseBefore m t p → NoneLooseBefore m t q → SameSurplus m (whole 0 p) (whole 0 q)
       → ((r : ℕ) → below m n (p.history r) ≡ below m n (q.history r)) → n < t
       → (r : ℕ) (e : E) → 0 < times m e (below m (suc n) (p.history r)) → 0 < times m e (below m (suc n) (q.history r))
   over n p q first second from_p from_q surplus same l r e h =
@@ -36,7 +36,7 @@ module _ {S E : Type 0} (m : Simulation S E) (law : IsLawful m) (stop t : ℕ) w
   none_before [] = refl
   none_before (x ∷ xs) = rw (le-ltb (m.time x) 0 (omega arith)) (none_before xs)
 
-  pub same_before : (p q : Place E) → IsGoodPart m 0 (whole stop p) → IsGoodPart m 0 (whole stop q) → IsFrom m t p → IsFrom m t q → SameSurplus m (whole 0 p) (whole 0 q)
+  pub same_before : (p q : Place E) → IsGoodPart m 0 (whole stop p) → IsGoodPart m 0 (whole stop q) → NoneLooseBefore m t p → NoneLooseBefore m t q → SameSurplus m (whole 0 p) (whole 0 q)
       → (n : ℕ) → n ≤ t → (r : ℕ) → below m n (p.history r) ≡ below m n (q.history r)
   same_before p q first second from_p from_q surplus zero l r = none_before (p.history r) ∙ sym (none_before (q.history r))
   same_before p q first second from_p from_q surplus (suc n) l r =
@@ -49,5 +49,5 @@ module _ {S E : Type 0} (m : Simulation S E) (law : IsLawful m) (stop t : ℕ) w
       (over n q p second first from_q from_p back (λ i. sym (before i)) (omega arith) r)
 
   -- so what calls keep of a place leaves it
-  pub kept_before : (p q : Place E) → IsPlace m stop p → IsFrom m t p → Keeps m stop p q → (r : ℕ) → below m t (q.history r) ≡ below m t (p.history r)
+  pub kept_before : (p q : Place E) → IsPlace m stop p → NoneLooseBefore m t p → PreservesPlace m stop p q → (r : ℕ) → below m t (q.history r) ≡ below m t (p.history r)
   kept_before p q place from keeps r = sym (same_before p q place.good keeps.place.good from (keeps.late t from) keeps.surplus t (omega arith) r)

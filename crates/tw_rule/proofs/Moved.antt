@@ -9,7 +9,7 @@ use Rattle.tw_rule.proofs.Places.{all_at, each_set, total_set}
 use Rattle.tw_rule.proofs.Visits.{stands_from}
 use Rattle.tw_rule.specs.Board.{Board, IsBoard, times_among}
 use Rattle.tw_rule.specs.Moving.{HaveGone, IsMoved}
-use Rattle.tw_rule.specs.Place.{IsFrom, IsPlace, Place, core, in_hand, whole}
+use Rattle.tw_rule.specs.Place.{IsPlace, NoneLooseBefore, Place, in_hand, place_core, whole}
 use Rattle.tw_rule.specs.Rule.{Rule, Stands, is_at}
 use Rattle.tw_sim.proofs.Counts.{in_head}
 use Rattle.tw_sim.specs.Simulation.{Simulation, IsFalling, IsLawful, sent, times}
@@ -82,10 +82,10 @@ module _ {S E : Type 0} (m : Simulation S E) (law : IsLawful m) where
     good_from stop good = grind (arith, from_each, cases_eq, handled_from, loose_from)
 
     -- as many are counted as are committed
-    counted_from : (stop : ℕ) → AreCounted m (core stop p) → AreCounted m (core stop p2)
+    counted_from : (stop : ℕ) → AreCounted m (place_core stop p) → AreCounted m (place_core stop p2)
     counted_from stop counted k = grind arith
 
-    place_from : (stop : ℕ) → IsFrom m x.bound p → IsPlace m stop p → IsPlace m stop p2
+    place_from : (stop : ℕ) → NoneLooseBefore m x.bound p → IsPlace m stop p → IsPlace m stop p2
     place_from stop from place = grind (arith, good_from, cases_eq, loose_from, counted_from)
 
     stands_moved_from : Stands m who x p → Stands m later y p2
@@ -150,7 +150,7 @@ module _ {S E : Type 0} (m : Simulation S E) (law : IsLawful m) where
       late_to : (e : E) → 0 < times_loose m (whole 0 q2) e → x.bound ≤ m.time e
       late_to e h = grind (arith, cases_lt, stands_from, loose_to)
 
-      counted_to : AreCounted m (core x.stop q2)
+      counted_to : AreCounted m (place_core x.stop q2)
       counted_to k = grind arith
 
       place_to : IsPlace m x.stop q2

@@ -9,11 +9,11 @@ use Rattle.tw_core.proofs.Parts.{good_assembled}
 use Rattle.tw_core.proofs.Sums.{all_map}
 use Rattle.tw_core.specs.Good.{IsGood}
 use Rattle.tw_core.specs.Machine.{AreCounted, Core}
-use Rattle.tw_core.specs.Parts.{AddUp, IsPart, Part, at_owner, owner, total}
+use Rattle.tw_core.specs.Parts.{AddUp, IsPart, Part, at_owner, owning_part, total}
 use Rattle.tw_core.specs.Run.{IsAtEnd, IsSeq, IsSettled}
 use Rattle.tw_rule.proofs.Places.{all_at, all_in_map, get_map, total_map}
 use Rattle.tw_rule.specs.Board.{Board, IsBoard}
-use Rattle.tw_rule.specs.Place.{IsRunBefore, Place, core, in_hand, part_of, whole}
+use Rattle.tw_rule.specs.Place.{IsRunBefore, Place, in_hand, part_of, place_core, whole}
 use Rattle.tw_rule.specs.Rule.{Rule, Stands, assembled, is_at, owning, shared}
 use Rattle.tw_sim.proofs.Unique.{all_below}
 use Rattle.tw_sim.specs.Seq.{log}
@@ -52,7 +52,7 @@ module _ {S E : Type 0} (m : Simulation S E) (law : IsLawful m) (who : ℕ → �
   good_of_rule x ps rule = good_assembled m law (shared x) (parts x ps) (adds_up x ps rule)
 
   -- and as many events of its routers are counted as committed as are committed
-  counted_together : (r stop : ℕ) (ps : List (Place E)) → AllByRecursion (λ p. AreCounted m (core stop p)) ps
+  counted_together : (r stop : ℕ) (ps : List (Place E)) → AllByRecursion (λ p. AreCounted m (place_core stop p)) ps
       → at_owner (λ (C : Core E). C.past r) 0 (map (part_of stop) ps) r
       ≡ length (below m (at_owner (λ (C : Core E). C.done r) 0 (map (part_of stop) ps) r) (at_owner (λ (C : Core E). C.history r) [] (map (part_of stop) ps) r))
   counted_together r stop [] counted = refl
@@ -64,10 +64,10 @@ module _ {S E : Type 0} (m : Simulation S E) (law : IsLawful m) (who : ℕ → �
   -- ---- what a place has is what that machine has
 
   owner_of : (x : Board E) (ps : List (Place E)) (i r : ℕ) (p : Place E) → Rule m who x ps → slice_get ps i ≡ Some p → r < m.routers → p.owns r ≡ true
-      → owner r (parts x ps) ≡ Some (part_of x.stop p)
+      → owning_part r (parts x ps) ≡ Some (part_of x.stop p)
   owner_of x ps i r p rule place l mine =
       let one = (adds_up x ps rule).once r l in
-      all_at (λ (z : Part E). z.owns r ≡ true → owner r (parts x ps) ≡ Some z) (parts x ps) i (part_of x.stop p) (get_map (part_of x.stop) ps i p place) (owner_is r (parts x ps) one) mine
+      all_at (λ (z : Part E). z.owns r ≡ true → owning_part r (parts x ps) ≡ Some z) (parts x ps) i (part_of x.stop p) (get_map (part_of x.stop) ps i p place) (owner_is r (parts x ps) one) mine
 
   pub read_of : {X : Type 0} (read : Core E → X) (nothing : X) (x : Board E) (ps : List (Place E)) (i r : ℕ) (p : Place E) → Rule m who x ps → slice_get ps i ≡ Some p → r < m.routers
       → p.owns r ≡ true → at_owner read nothing (parts x ps) r ≡ read (whole x.stop p)

@@ -10,7 +10,7 @@ use Rattle.tw_core.specs.Machine.{antimessages, messages, times_loose}
 use Rattle.tw_rule.proofs.Calls.{hand_is_loose, hand_is_own, in_hand_loose}
 use Rattle.tw_rule.proofs.Least.{bound_from, events_from, events_told, from_bound, mail_told, still_told, told_from}
 use Rattle.tw_rule.specs.Board.{Board, IsBoard, IsVisit, least_report, report_of, times_among, workers}
-use Rattle.tw_rule.specs.Place.{IsFrom, IsPlace, Keeps, Place, Tells, after_visit, in_hand, report_time, whole}
+use Rattle.tw_rule.specs.Place.{IsPlace, NoneLooseBefore, Place, PreservesPlace, Tells, after_visit, in_hand, report_time, whole}
 use Rattle.tw_rule.specs.Rule.{MayGive, Stands}
 use Rattle.tw_sim.proofs.Counts.{times-append}
 use Rattle.tw_sim.specs.declared.machine.Signed.{Signed}
@@ -35,16 +35,16 @@ module _ {S E : Type 0} (m : Simulation S E) (law : IsLawful m) (who : ℕ → �
   reported_from b (Some a) n h k = omega arith
 
   -- nothing loose at a place that stands is before the board's bound
-  pub stands_from : (x : Board E) (p : Place E) → IsBoard m x → Stands m who x p → IsFrom m x.bound p
+  pub stands_from : (x : Board E) (p : Place E) → IsBoard m x → Stands m who x p → NoneLooseBefore m x.bound p
   stands_from x p board stands e h = reported_from x.bound (report_of p.worker x) (m.time e) (board.reported p.worker) (stands.reported e h)
 
   -- and where nothing loose becomes earlier, the report stays right
-  still_reported : (o : Option ℕ) (p q : Place E) → ((t : ℕ) → IsFrom m t p → IsFrom m t q) → ((e : E) → 0 < times_loose m (whole 0 p) e → IsSomeAnd o (λ time. time ≤ m.time e))
+  still_reported : (o : Option ℕ) (p q : Place E) → ((t : ℕ) → NoneLooseBefore m t p → NoneLooseBefore m t q) → ((e : E) → 0 < times_loose m (whole 0 p) e → IsSomeAnd o (λ time. time ≤ m.time e))
       → (e : E) → 0 < times_loose m (whole 0 q) e → IsSomeAnd o (λ time. time ≤ m.time e)
   still_reported None p q late told e h = let no = late (suc (m.time e)) (λ x k. absurd (told x k)) e h in absurd (omega arith)
   still_reported (Some a) p q late told e h = late a told e h
 
-  stands_still : (x : Board E) (p q : Place E) → Stands m who x p → Keeps m x.stop p q → Stands m who x q
+  stands_still : (x : Board E) (p q : Place E) → Stands m who x p → PreservesPlace m x.stop p q → Stands m who x q
   stands_still x p q stands keeps = record {
     worker = subst (λ w. w < workers x) (sym keeps.worker) stands.worker;
     owns = λ r l. ap (λ f. f r) keeps.owns ∙ (stands.owns r l ∙ ap (λ w. who r == w) (sym keeps.worker));
@@ -54,7 +54,7 @@ module _ {S E : Type 0} (m : Simulation S E) (law : IsLawful m) (who : ℕ → �
     bound = (let same = keeps.bound in let old = stands.bound in omega arith);
   }
 
-  pub may_stay : (x : Board E) (p q : Place E) → IsBoard m x → Stands m who x p → Keeps m x.stop p q → MayGive m who x p x q
+  pub may_stay : (x : Board E) (p q : Place E) → IsBoard m x → Stands m who x p → PreservesPlace m x.stop p q → MayGive m who x p x q
   may_stay x p q board stands keeps = record {
     worker = keeps.worker;
     steps = record { others = λ v other. refl; workers = refl; bound = omega arith; stop = refl; board = board };
@@ -64,14 +64,14 @@ module _ {S E : Type 0} (m : Simulation S E) (law : IsLawful m) (who : ℕ → �
   }
 
   -- a message in the hand is never refused as late, foreign or not its own
-  pub welcome : (x : Board E) (p q : Place E) (k : ℕ) (s : Signed E) → IsBoard m x → Stands m who x p → Keeps m x.stop p q → slice_get q.mail k ≡ Some s
+  pub welcome : (x : Board E) (p q : Place E) (k : ℕ) (s : Signed E) → IsBoard m x → Stands m who x p → PreservesPlace m x.stop p q → slice_get q.mail k ≡ Some s
       → (q.bound ≤ m.time s.event) × (q.owns (m.dst s.event) ≡ true) × (m.suits s.event ≡ true)
   welcome x p q k s board stands keeps there = grind (arith, hand_is_loose, stands_from, hand_is_own)
 
   -- ---- what a visit is asked
 
   -- the least time of what waits is not before the board's bound
-  pub report_late : (x : Board E) (p q : Place E) → IsBoard m x → Stands m who x p → Keeps m x.stop p q → IfSome (report_time m q) (λ time. x.bound ≤ time)
+  pub report_late : (x : Board E) (p q : Place E) → IsBoard m x → Stands m who x p → PreservesPlace m x.stop p q → IfSome (report_time m q) (λ time. x.bound ≤ time)
   report_late x p q board stands keeps =
       let from = keeps.late x.bound (stands_from x p board stands) in
       told_from m law x.bound (reduce min (map (λ e. m.time e) (q.pending ++ q.kept ++ q.held))) q.mail
@@ -80,16 +80,16 @@ module _ {S E : Type 0} (m : Simulation S E) (law : IsLawful m) (who : ℕ → �
       (λ e h. from e (in_hand_loose m q e (omega arith)))
 
   -- nor is what it would deposit
-  pub unsent_late : (x : Board E) (p q : Place E) (e : E) → IsBoard m x → Stands m who x p → Keeps m x.stop p q → 0 < times_among m e q.unsent → x.bound ≤ m.time e
+  pub unsent_late : (x : Board E) (p q : Place E) (e : E) → IsBoard m x → Stands m who x p → PreservesPlace m x.stop p q → 0 < times_among m e q.unsent → x.bound ≤ m.time e
   unsent_late x p q e board stands keeps h = keeps.late x.bound (stands_from x p board stands) e (in_hand_loose m q e (omega arith))
 
   -- and it suits its receiver
-  pub unsent_suits : (stop : ℕ) (p q : Place E) (e : E) → Keeps m stop p q → 0 < times_among m e q.unsent → m.suits e ≡ true
+  pub unsent_suits : (stop : ℕ) (p q : Place E) (e : E) → PreservesPlace m stop p q → 0 < times_among m e q.unsent → m.suits e ≡ true
   unsent_suits stop p q e keeps h = let loose = in_hand_loose m q e (omega arith) in keeps.place.good.suit e (omega arith)
 
   -- ---- with a visit
 
-  module _ (x y : Board E) (p q : Place E) (report : Option ℕ) (mail : List (Signed E)) (board : IsBoard m x) (stands : Stands m who x p) (keeps : Keeps m x.stop p q)
+  module _ (x y : Board E) (p q : Place E) (report : Option ℕ) (mail : List (Signed E)) (board : IsBoard m x) (stands : Stands m who x p) (keeps : PreservesPlace m x.stop p q)
       (visit : IsVisit m who p.worker q.unsent report mail x y) where
     -- what lies on the board afterwards, or was handed out, lay there or was deposited
     passed_on : (e : E) → 0 < times_among m e y.mail + times_among m e mail → (x.bound ≤ m.time e) × (m.suits e ≡ true)

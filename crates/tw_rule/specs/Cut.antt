@@ -2,7 +2,7 @@
 use Rattle.std.specs.Prelude.{ℕ, suc, ◌≡◌, ◌<◌, ◌≤◌, ◌==◌, cond, List, [], ◌∷◌, Some, replicate}
 use Rattle.tw_core.specs.Machine.{AreCounted}
 use Rattle.tw_rule.specs.Board.{Board}
-use Rattle.tw_rule.specs.Place.{Place, core}
+use Rattle.tw_rule.specs.Place.{Place, place_core}
 use Rattle.tw_sim.specs.Seq.{log, rest}
 use Rattle.tw_sim.specs.Simulation.{Simulation, only, times}
 
@@ -25,7 +25,7 @@ module _ {S E : Type 0} (m : Simulation S E) where
     pub outgoing : p.outgoing ≡ []
     pub held : p.held ≡ []
     pub done : (r : ℕ) → p.done r ≤ t
-    pub counted : AreCounted m (core t p)
+    pub counted : AreCounted m (place_core t p)
     pub bound : p.bound ≡ t
     pub mail : p.mail ≡ []
     pub unsent : p.unsent ≡ []

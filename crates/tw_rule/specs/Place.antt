@@ -40,8 +40,8 @@ pub record Place (E : Type 0) : Type 0 where
 
 module _ {E : Type 0} where
   -- its routers as a machine of their own, to this stop: what they send stays in flight
-  abbrev pub core : ℕ → Place E → Core E
-  core stop p = record {
+  abbrev pub place_core : ℕ → Place E → Core E
+  place_core stop p = record {
     history = p.history;
     pending = p.pending;
     kept = p.kept;
@@ -61,7 +61,7 @@ module _ {E : Type 0} where
 
   -- that machine with all of these in flight
   abbrev pub whole : ℕ → Place E → Core E
-  whole stop p = record (core stop p) { flight = in_hand p }
+  whole stop p = record (place_core stop p) { flight = in_hand p }
 
   -- it as a part of the machine of all routers
   abbrev pub part_of : ℕ → Place E → Part E
@@ -92,8 +92,8 @@ module _ {E : Type 0} where
 
 module _ {S E : Type 0} (m : Simulation S E) where
   -- nothing loose at a place is before t
-  abbrev pub IsFrom : ℕ → Place E → Type 0
-  IsFrom t p = (e : E) → 0 < times_loose m (whole 0 p) e → t ≤ m.time e
+  abbrev pub NoneLooseBefore : ℕ → Place E → Type 0
+  NoneLooseBefore t p = (e : E) → 0 < times_loose m (whole 0 p) e → t ≤ m.time e
 
   -- what a worker keeps at its place, to this stop
   pub record IsPlace (stop : ℕ) (p : Place E) : Type 0 where
@@ -107,22 +107,22 @@ module _ {S E : Type 0} (m : Simulation S E) where
     pub held : (e : E) → 0 < times m e p.held → p.owns (m.src e) ≡ true
     -- no commit was beyond the bound that it knows, and nothing loose is before that
     pub done : (r : ℕ) → p.done r ≤ p.bound
-    pub late : IsFrom p.bound p
+    pub late : NoneLooseBefore p.bound p
     -- as many events of each router are counted as committed as are committed, so that it has room for just so many others as it is told
-    pub counted : AreCounted m (core stop p)
+    pub counted : AreCounted m (place_core stop p)
 
   -- before t, the routers of a place have handled what the one-thread run has
   abbrev pub IsRunBefore : ℕ → Place E → Type 0
   IsRunBefore t p = (r : ℕ) → r < m.routers → p.owns r ≡ true → below m t (p.history r) ≡ only m r (log m t)
 
   -- what a call at a place keeps
-  pub record Keeps (stop : ℕ) (p q : Place E) : Type 0 where
+  pub record PreservesPlace (stop : ℕ) (p q : Place E) : Type 0 where
     -- the same worker's, with the same routers
     pub worker : q.worker ≡ p.worker
     pub owns : q.owns ≡ p.owns
     pub place : IsPlace stop q
     -- where nothing loose was before a time, nothing loose is
-    pub late : (t : ℕ) → IsFrom t p → IsFrom t q
+    pub late : (t : ℕ) → NoneLooseBefore t p → NoneLooseBefore t q
     -- nothing is lost or invented
     pub surplus : SameSurplus m (whole 0 p) (whole 0 q)
     -- no commit is taken back

@@ -11,7 +11,7 @@ ghost use Rattle.tw_core.specs.Run.{IsAtEnd, IsSeq};
 ghost use Rattle.tw_core.specs.Steps.{IsRolledBack, after_arrival, first_pending, handle, with_commit, with_release, with_room};
 ghost use Rattle.tw_rule.specs.Board.{Board, IsBoard, IsVisit, times_among};
 ghost use Rattle.tw_rule.specs.Cut.{AreCutPlaces, IsCutBoard};
-ghost use Rattle.tw_rule.specs.Place.{IsFrom, IsPlace, IsRunBefore, Keeps, Place, Tells, after_visit, core, in_hand, report_time, with_core, with_unsent};
+ghost use Rattle.tw_rule.specs.Place.{IsPlace, IsRunBefore, NoneLooseBefore, Place, PreservesPlace, Tells, after_visit, in_hand, place_core, report_time, with_core, with_unsent};
 ghost use Rattle.tw_rule.specs.Moving.{IsMoved};
 ghost use Rattle.tw_rule.specs.Rule.{AreOpeningPlaces, IsOpeningBoard, MayGive, Rule, Stands, assembled, owning};
 ghost use Rattle.tw_sim.specs.declared.machine.Signed.{Signed};
@@ -63,7 +63,7 @@ pub fn routers_have_owners<S, E>()
 /// exactly where it has handled as many others as it has room for.
 pub fn committed_are_counted<S, E>()
     ensures place { (m : Simulation S E) → IsLawful m → (who : ℕ → ℕ) (x : Board E) (ps : List (Place E)) (i : ℕ) (p : Place E) → Rule m who x ps
-        → slice_get ps i ≡ Some p → AreCounted m (core x.stop p) }
+        → slice_get ps i ≡ Some p → AreCounted m (place_core x.stop p) }
     ensures all { (m : Simulation S E) → IsLawful m → (who : ℕ → ℕ) (x : Board E) (ps : List (Place E)) → Rule m who x ps → AreCounted m (assembled x ps) }
 {}
 
@@ -84,22 +84,22 @@ pub fn settled_is_end<S, E>()
 /// kept by one call and then by another is kept by both. What is kept leaves what was handled before a
 /// time before which nothing is loose.
 pub fn calls_keep_places<S, E>()
-    ensures same { (m : Simulation S E) (stop : ℕ) (p : Place E) → IsPlace m stop p → Keeps m stop p p }
-    ensures both { (m : Simulation S E) (stop : ℕ) (p q r : Place E) → Keeps m stop p q → Keeps m stop q r → Keeps m stop p r }
+    ensures same { (m : Simulation S E) (stop : ℕ) (p : Place E) → IsPlace m stop p → PreservesPlace m stop p p }
+    ensures both { (m : Simulation S E) (stop : ℕ) (p q r : Place E) → PreservesPlace m stop p q → PreservesPlace m stop q r → PreservesPlace m stop p r }
     ensures handle { (m : Simulation S E) → IsLawful m → (stop r : ℕ) (p : Place E) (D : Core E) → IsPlace m stop p
-        → handle m (core stop p) r (first_pending m (core stop p) r) ≡ Ok D → Keeps m stop p (with_core D p) }
+        → handle m (place_core stop p) r (first_pending m (place_core stop p) r) ≡ Ok D → PreservesPlace m stop p (with_core D p) }
     ensures receive { (m : Simulation S E) → IsLawful m → (stop k : ℕ) (p : Place E) (s : Signed E) → IsPlace m stop p → slice_get p.mail k ≡ Some s
-        → Keeps m stop p (with_core (after_arrival m (core stop p) s) (record p { mail = remove p.mail k })) }
+        → PreservesPlace m stop p (with_core (after_arrival m (place_core stop p) s) (record p { mail = remove p.mail k })) }
     ensures roll_back { (m : Simulation S E) → IsLawful m → (stop k : ℕ) (p : Place E) (s : Signed E) (D : Core E) → IsPlace m stop p → slice_get p.mail k ≡ Some s
-        → IsRolledBack m s.event (core stop p) D → Keeps m stop p (with_core D p) }
-    ensures commit { (m : Simulation S E) → IsLawful m → (stop r : ℕ) (p : Place E) → IsPlace m stop p → Keeps m stop p (with_core (with_commit m (core stop p) r) p) }
-    ensures release { (m : Simulation S E) → IsLawful m → (stop r : ℕ) (p : Place E) → IsPlace m stop p → Keeps m stop p (with_core (with_release m (core stop p) r) p) }
-    ensures widen { (m : Simulation S E) → IsLawful m → (stop r : ℕ) (p : Place E) → IsPlace m stop p → Keeps m stop p (with_core (with_room m (core stop p) r) p) }
+        → IsRolledBack m s.event (place_core stop p) D → PreservesPlace m stop p (with_core D p) }
+    ensures commit { (m : Simulation S E) → IsLawful m → (stop r : ℕ) (p : Place E) → IsPlace m stop p → PreservesPlace m stop p (with_core (with_commit m (place_core stop p) r) p) }
+    ensures release { (m : Simulation S E) → IsLawful m → (stop r : ℕ) (p : Place E) → IsPlace m stop p → PreservesPlace m stop p (with_core (with_release m (place_core stop p) r) p) }
+    ensures widen { (m : Simulation S E) → IsLawful m → (stop r : ℕ) (p : Place E) → IsPlace m stop p → PreservesPlace m stop p (with_core (with_room m (place_core stop p) r) p) }
     ensures unsent { (m : Simulation S E) → IsLawful m → (stop : ℕ) (p : Place E) (unsent outgoing : List (Signed E)) → IsPlace m stop p
         → ((e : E) → messages m e unsent + messages m e outgoing ≡ messages m e p.unsent + messages m e p.outgoing)
         → ((e : E) → antimessages m e unsent + antimessages m e outgoing ≡ antimessages m e p.unsent + antimessages m e p.outgoing)
-        → Keeps m stop p (with_unsent unsent outgoing p) }
-    ensures before { (m : Simulation S E) → IsLawful m → (stop t : ℕ) (p q : Place E) → IsPlace m stop p → IsFrom m t p → Keeps m stop p q
+        → PreservesPlace m stop p (with_unsent unsent outgoing p) }
+    ensures before { (m : Simulation S E) → IsLawful m → (stop t : ℕ) (p q : Place E) → IsPlace m stop p → NoneLooseBefore m t p → PreservesPlace m stop p q
         → (r : ℕ) → below m t (q.history r) ≡ below m t (p.history r) }
 {}
 
@@ -107,10 +107,10 @@ pub fn calls_keep_places<S, E>()
 /// what a visit leaves, once all that its routers have sent is deposited and its report tells of all that
 /// waits. The place may then know any bound from its own to the board's.
 pub fn calls_may_be_given<S, E>()
-    ensures stay { (m : Simulation S E) → IsLawful m → (who : ℕ → ℕ) (x : Board E) (p q : Place E) → IsBoard m x → Stands m who x p → Keeps m x.stop p q
+    ensures stay { (m : Simulation S E) → IsLawful m → (who : ℕ → ℕ) (x : Board E) (p q : Place E) → IsBoard m x → Stands m who x p → PreservesPlace m x.stop p q
         → MayGive m who x p x q }
     ensures visit { (m : Simulation S E) → IsLawful m → (who : ℕ → ℕ) (x y : Board E) (p q : Place E) (report : Option ℕ) (mail : List (Signed E)) (bound : ℕ)
-        → IsBoard m x → Stands m who x p → Keeps m x.stop p q → q.outgoing ≡ [] → Tells m report q → IsVisit m who p.worker q.unsent report mail x y
+        → IsBoard m x → Stands m who x p → PreservesPlace m x.stop p q → q.outgoing ≡ [] → Tells m report q → IsVisit m who p.worker q.unsent report mail x y
         → q.bound ≤ bound → bound ≤ y.bound → MayGive m who x p y (after_visit mail bound q) }
 {}
 
@@ -120,18 +120,18 @@ pub fn calls_may_be_given<S, E>()
 pub fn visits_are_welcome<S, E>()
     ensures tells { (m : Simulation S E) → IsLawful m → (p : Place E) → Tells m (report_time m p) p }
     ensures empty { (m : Simulation S E) (p : Place E) → p.mail ≡ [] → report_time m p ≡ reduce min (map (λ e. m.time e) (p.pending ++ p.kept ++ p.held)) }
-    ensures report { (m : Simulation S E) → IsLawful m → (who : ℕ → ℕ) (x : Board E) (p q : Place E) → IsBoard m x → Stands m who x p → Keeps m x.stop p q
+    ensures report { (m : Simulation S E) → IsLawful m → (who : ℕ → ℕ) (x : Board E) (p q : Place E) → IsBoard m x → Stands m who x p → PreservesPlace m x.stop p q
         → IfSome (report_time m q) (λ time. x.bound ≤ time) }
-    ensures unsent { (m : Simulation S E) → IsLawful m → (who : ℕ → ℕ) (x : Board E) (p q : Place E) (e : E) → IsBoard m x → Stands m who x p → Keeps m x.stop p q
+    ensures unsent { (m : Simulation S E) → IsLawful m → (who : ℕ → ℕ) (x : Board E) (p q : Place E) (e : E) → IsBoard m x → Stands m who x p → PreservesPlace m x.stop p q
         → 0 < times_among m e q.unsent → x.bound ≤ m.time e }
-    ensures suited { (m : Simulation S E) → IsLawful m → (stop : ℕ) (p q : Place E) (e : E) → Keeps m stop p q → 0 < times_among m e q.unsent → m.suits e ≡ true }
+    ensures suited { (m : Simulation S E) → IsLawful m → (stop : ℕ) (p q : Place E) (e : E) → PreservesPlace m stop p q → 0 < times_among m e q.unsent → m.suits e ≡ true }
 {}
 
 /// A message in a worker's hand is never before the bound that its place knows, is for one of its routers,
 /// and suits it: so it is never refused there as late, foreign or not its own.
 pub fn mail_is_welcome<S, E>()
     ensures { (m : Simulation S E) → IsLawful m → (who : ℕ → ℕ) (x : Board E) (p q : Place E) (k : ℕ) (s : Signed E) → IsBoard m x → Stands m who x p
-        → Keeps m x.stop p q → slice_get q.mail k ≡ Some s
+        → PreservesPlace m x.stop p q → slice_get q.mail k ≡ Some s
         → (q.bound ≤ m.time s.event) × (q.owns (m.dst s.event) ≡ true) × (m.suits s.event ≡ true) }
 {}
 

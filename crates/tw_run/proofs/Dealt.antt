@@ -8,10 +8,10 @@ use Rattle.std.specs.Prelude.{if◌then◌else◌, nat_lt, ◌||◌}
 use Rattle.std.proofs.lemmas.Option.{get_or_from_slice_get}
 use Rattle.tw_model.specs.Case.{Case}
 use Rattle.tw_sim.specs.Owners.{owner}
-use Rattle.tw_exchange.specs.Board.{opening, who, worker_for, workers}
+use Rattle.tw_exchange.specs.Board.{new_board, who, worker_for, workers}
 use Rattle.tw_parallel.specs.Moving.{are_owners}
 use Rattle.tw_parallel.specs.Sim.{GoesOn, HasSameOwners, Sim}
-use Rattle.tw_run.specs.Dealing.{AreDealt, first_owner, owner_after, owners_after}
+use Rattle.tw_run.specs.Dealing.{AreDealtAs, first_owner, owner_after, owners_after}
 use Rattle.tw_run.specs.declared.dealing.Dealing.{Dealing as ADealing}
 
 -- r * workers div routers is a worker
@@ -57,12 +57,12 @@ fits s d checkpoints some =
 
 -- nothing has changed
 pub goes_on_same : (s : Sim) → GoesOn s s
-goes_on_same s = record { case = refl; workers = refl; keeps = λ all. all; cancels = refl; bound = omega arith }
+goes_on_same s = record { case = refl; workers = refl; retains = λ all. all; cancels = refl; bound = omega arith }
 
 -- ---- the routers are dealt out to all workers
 
 -- as a run opens, where nothing else is told
-pub dealt_opening : (d : ADealing) (s : Sim) (n : ℕ) → (d.blocks || d.rotate) ≡ false → s.board ≡ opening n 0 0 → AreDealt d 0 s
+pub dealt_opening : (d : ADealing) (s : Sim) (n : ℕ) → (d.blocks || d.rotate) ≡ false → s.board ≡ new_board n 0 0 → AreDealtAs d 0 s
 dealt_opening d s n off begins = λ r known. go r d.blocks d.rotate off
   where
     in_turn : (r : ℕ) → who s.board r ≡ owner (workers s.board) r
@@ -79,7 +79,7 @@ dealt_opening d s n off begins = λ r known. go r d.blocks d.rotate off
 
 -- where they have gone to the workers that a list names
 pub dealt_out : (d : ADealing) (k : ℕ) (s t : Sim) (list : List ℕ) → GoesOn s t → list ≡ owners_after d (workers s.board) s.case.net.nodes k
-    → ((r : ℕ) → r < s.case.net.nodes → slice_get list r ≡ Some (who t.board r)) → AreDealt d k t
+    → ((r : ℕ) → r < s.case.net.nodes → slice_get list r ≡ Some (who t.board r)) → AreDealtAs d k t
 dealt_out d k s t list on is gone = λ r known.
     let nodes : t.case.net.nodes ≡ s.case.net.nodes = ap (λ (c : Case). c.net.nodes) on.case in
     let within : r < s.case.net.nodes = omega (arith, known, nodes) in
@@ -89,14 +89,14 @@ dealt_out d k s t list on is gone = λ r known.
     sym named ∙ (dealt ∙ (λ i. owner_after d (sym on.workers i) (sym nodes i) k r))
 
 -- and while the workers work
-pub still_dealt : (d : ADealing) (k : ℕ) (s t : Sim) → AreDealt d k s → GoesOn s t → HasSameOwners s t → AreDealt d k t
+pub still_dealt : (d : ADealing) (k : ℕ) (s t : Sim) → AreDealtAs d k s → GoesOn s t → HasSameOwners s t → AreDealtAs d k t
 still_dealt d k s t dealt on same = λ r known.
     let nodes : t.case.net.nodes ≡ s.case.net.nodes = ap (λ (c : Case). c.net.nodes) on.case in
     let within : r < s.case.net.nodes = omega (arith, known, nodes) in
     same r within ∙ (dealt r within ∙ (λ i. owner_after d (sym on.workers i) (sym nodes i) k r))
 
 -- those that don't go from worker to worker are dealt out so after every checkpoint
-pub dealt_always : (d : ADealing) (k j : ℕ) (s : Sim) → d.rotate ≡ false → AreDealt d k s → AreDealt d j s
+pub dealt_always : (d : ADealing) (k j : ℕ) (s : Sim) → d.rotate ≡ false → AreDealtAs d k s → AreDealtAs d j s
 dealt_always d k j s stays dealt = λ r known. dealt r known ∙ go r d.rotate stays
   where
     first : ℕ → ℕ

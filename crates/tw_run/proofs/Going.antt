@@ -11,7 +11,7 @@ use Rattle.tw_parallel.proofs.Rounds.{goes_on_both}
 use Rattle.tw_parallel.specs.Settled.{IsSettled}
 use Rattle.tw_parallel.specs.Sim.{GoesOn, HasSameOwners, Sim, cancels_of}
 use Rattle.tw_run.proofs.Dealt.{dealt_out, goes_on_same, still_dealt}
-use Rattle.tw_run.specs.Dealing.{AreDealt, owners_after}
+use Rattle.tw_run.specs.Dealing.{AreDealtAs, owners_after}
 use Rattle.tw_run.specs.Ran.{HasCome, HasComeTo, HasStoppedBy, HaveComeAsChosen, IsBy, IsLeftBy, IsRunBy, IsRunByAny, MayStop, MayStopAlone, MayStopBy}
 use Rattle.tw_run.specs.declared.dealing.Dealing.{Dealing as ADealing}
 use Rattle.tw_run.specs.declared.ran.By.{By}
@@ -52,7 +52,7 @@ stopped_by case asked n s NoThread by h = tt
 stopped_by case asked n s (FullAhead t) by h = record { by = by_later case asked n s t by h.0; full = h.1 }
 
 -- their routers stay dealt out
-pub dealt_later : (d : ADealing) (k : ℕ) (s : Sim) (result : Result Sim Stopped) → AreDealt d k s → IfOk result (λ t. GoesOn s t) → IfOk result (λ t. HasSameOwners s t) → IfOk result (λ t. AreDealt d k t)
+pub dealt_later : (d : ADealing) (k : ℕ) (s : Sim) (result : Result Sim Stopped) → AreDealtAs d k s → IfOk result (λ t. GoesOn s t) → IfOk result (λ t. HasSameOwners s t) → IfOk result (λ t. AreDealtAs d k t)
 dealt_later d k s (Ok t) dealt on same = still_dealt d k s t dealt on same
 dealt_later d k s (Err why) dealt on same = tt
 
@@ -85,7 +85,7 @@ told_stops case asked n (FullAhead s) many told may = absurd may
 -- ---- workers that are chosen
 
 -- they have come to a later time
-pub come_later : (time : ℕ) (case : Case) (asked : AnAsked) (s t : Sim) → HasComeTo s.board.stop case asked s → GoesOn s t → IsSettled t → t.board.stop ≡ time → AreDealt asked.dealing 0 t
+pub come_later : (time : ℕ) (case : Case) (asked : AnAsked) (s t : Sim) → HasComeTo s.board.stop case asked s → GoesOn s t → IsSettled t → t.board.stop ≡ time → AreDealtAs asked.dealing 0 t
     → HasComeTo time case asked t
 come_later time case asked s t come on settled stop dealt =
     let many = on.workers in
@@ -107,7 +107,7 @@ come_to_stop time case asked s early late log come = (
     settled = come.settled;
     stop = come.stop ∙ (let same : time ≡ asked.stop = omega (arith, early, late) in same);
     dealt = (0, come.dealt);
-    keeps = λ logged. absurd (true≢false (sym logged ∙ log));
+    retains = λ logged. absurd (true≢false (sym logged ∙ log));
   },
 )
 

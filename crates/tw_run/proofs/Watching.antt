@@ -15,7 +15,7 @@ pub record IsOnTheWay (every seen : ℕ) (first now : Sim) (watch : Watch) : Typ
 
 pub on_the_way_begin : (every : ℕ) (first : Sim) (watch : Watch) → first.board.stop ≡ 0 → watch ≡ fresh every → IsOnTheWay every 0 first first watch
 on_the_way_begin every first watch opening new = record {
-  goes_on = record { case = refl; workers = refl; keeps = λ all. all; cancels = refl; bound = omega arith };
+  goes_on = record { case = refl; workers = refl; retains = λ all. all; cancels = refl; bound = omega arith };
   stop = omega arith;
   shown = subst (HasSeen first.case every 0) (sym new) nothing;
 }

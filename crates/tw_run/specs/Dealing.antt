@@ -20,10 +20,10 @@ abbrev pub owners_after : ADealing → ℕ → ℕ → ℕ → List ℕ
 owners_after dealing workers routers checkpoints = map (owner_after dealing workers routers checkpoints) (range_with_len 0 routers)
 
 -- the routers of a run are dealt out to all of its workers, as they are to be after so many checkpoints
-abbrev pub AreDealt : ADealing → ℕ → Sim → Type 0
-AreDealt dealing checkpoints s =
+abbrev pub AreDealtAs : ADealing → ℕ → Sim → Type 0
+AreDealtAs dealing checkpoints s =
     (r : ℕ) → r < s.case.net.nodes → who s.board r ≡ owner_after dealing (workers s.board) s.case.net.nodes checkpoints r
 
 -- the routers of a run are dealt out to all of its workers, in one of these ways
 abbrev pub AreDealtToAll : Sim → Type 0
-AreDealtToAll s = (dealing : ADealing) × (checkpoints : ℕ) × AreDealt dealing checkpoints s
+AreDealtToAll s = (dealing : ADealing) × (checkpoints : ℕ) × AreDealtAs dealing checkpoints s

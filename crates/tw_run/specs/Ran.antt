@@ -5,8 +5,8 @@ use Rattle.tw_exchange.specs.Board.{workers}
 use Rattle.tw_model.specs.Case.{Case}
 use Rattle.tw_model.specs.Summary.{summary_of}
 use Rattle.tw_parallel.specs.Settled.{IsSettled}
-use Rattle.tw_parallel.specs.Sim.{KeepsEvents, Sim, cancels_of}
-use Rattle.tw_run.specs.Dealing.{AreDealt}
+use Rattle.tw_parallel.specs.Sim.{RetainsEvents, Sim, cancels_of}
+use Rattle.tw_run.specs.Dealing.{AreDealtAs}
 use Rattle.tw_run.specs.declared.cause.Stopped.{Stopped}
 use Rattle.tw_run.specs.declared.chosen.Come.{Come}
 use Rattle.tw_run.specs.declared.chosen.Come.TheVariants as come
@@ -38,9 +38,9 @@ pub record HasCome (case : Case) (asked : AnAsked) (n : ℕ) (s : Sim) : Type 0 
   pub by : IsBy case asked n s
   pub settled : IsSettled s
   pub stop : s.board.stop ≡ asked.stop
-  pub dealt : (checkpoints : ℕ) × AreDealt asked.dealing checkpoints s
+  pub dealt : (checkpoints : ℕ) × AreDealtAs asked.dealing checkpoints s
   -- with the events where these are to be logged
-  pub keeps : asked.log ≡ true → KeepsEvents s
+  pub retains : asked.log ≡ true → RetainsEvents s
 
 -- or to a time, as many as may be chosen
 pub record HasComeTo (time : ℕ) (case : Case) (asked : AnAsked) (s : Sim) : Type 0 where
@@ -49,7 +49,7 @@ pub record HasComeTo (time : ℕ) (case : Case) (asked : AnAsked) (s : Sim) : Ty
   pub by : IsBy case asked (workers s.board) s
   pub settled : IsSettled s
   pub stop : s.board.stop ≡ time
-  pub dealt : AreDealt asked.dealing 0 s
+  pub dealt : AreDealtAs asked.dealing 0 s
 
 -- or one of which met a full counter
 pub record HasMetFull (case : Case) (asked : AnAsked) (n : ℕ) (s : Sim) : Type 0 where

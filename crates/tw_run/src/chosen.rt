@@ -216,8 +216,12 @@ fn go_on_by_all<'a, X: Threads + Wait + Sync + Clock, O: Progress + Stages + Gat
     let mut run = sim;
     while let Some(end) = course.next_end(asked.stop) {
         if course.is_over() {
+            let start = micros(rt);
             match run.into_run() {
-                Ok(alone) => return Tried::Over(alone, course.go_on_alone()),
+                Ok(alone) => {
+                    let closing = micros(rt).saturating_sub(start);
+                    return Tried::Over(alone, course.go_on_alone(closing));
+                }
                 Err(still) => run = still.sim,
             }
         }

@@ -2,8 +2,8 @@
 ghost use Rattle.std.specs.Prelude.{◌≡◌, ◌<◌, ◌≤◌, ◌||◌, true, IfOk, OnOk, replicate};
 ghost use Rattle.tw_exchange.specs.Board.{workers};
 ghost use Rattle.tw_model.specs.declared.limits.TheConstants.{LATEST};
-ghost use Rattle.tw_parallel.specs.Sim.{GoesOn, KeepsEvents, cancels_of};
-ghost use Rattle.tw_run.specs.Dealing.{AreDealt, first_owner, owner_after, owners_after};
+ghost use Rattle.tw_parallel.specs.Sim.{GoesOn, RetainsEvents, cancels_of};
+ghost use Rattle.tw_run.specs.Dealing.{AreDealtAs, first_owner, owner_after, owners_after};
 
 use crate::run::Asked;
 use std::alloc::{AllocError, Global};
@@ -41,9 +41,9 @@ pub(crate) fn open_dealt<'a>(
     ensures case { IfOk result (λ sim. sim.case ≡ case.now) }
     ensures workers { IfOk result (λ sim. workers sim.board ≡ crew) }
     ensures stop { IfOk result (λ sim. sim.board.stop ≡ 0) }
-    ensures keeps { asked.log ≡ true → IfOk result (λ sim. KeepsEvents sim) }
+    ensures retains { asked.log ≡ true → IfOk result (λ sim. RetainsEvents sim) }
     ensures cancels { IfOk result (λ sim. cancels_of sim ≡ replicate crew asked.cancel) }
-    ensures dealt { IfOk result (λ sim. AreDealt asked.dealing 0 sim) }
+    ensures dealt { IfOk result (λ sim. AreDealtAs asked.dealing 0 sim) }
 {
     let mut sim = Sim::open_with(alloc, case, crew, asked.log, asked.cancel)?;
     if !asked.dealing.is_told() {
@@ -62,7 +62,7 @@ pub(crate) fn deal(
 ) -> Result<(), AllocError>
     requires some { 0 < workers sim.old.board }
     requires checkpoints { checkpoints ≤ LATEST }
-    ensures dealt { OnOk result (AreDealt dealing checkpoints sim.new) }
+    ensures dealt { OnOk result (AreDealtAs dealing checkpoints sim.new) }
     ensures goes_on { GoesOn sim.old sim.new }
     ensures stop { sim.new.board.stop ≡ sim.old.board.stop }
 {

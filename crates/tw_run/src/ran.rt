@@ -3,7 +3,7 @@ ghost use Rattle.std.specs.Prelude.{◌≡◌, true, IfOk};
 ghost use Rattle.tw_commands.specs.Seq.{shown};
 ghost use Rattle.tw_model.specs.Summary.{summary_of};
 ghost use Rattle.tw_parallel.specs.Settled.{IsSettled};
-ghost use Rattle.tw_parallel.specs.Sim.{KeepsEvents};
+ghost use Rattle.tw_parallel.specs.Sim.{RetainsEvents};
 ghost use Rattle.tw_run.specs.Ran.{IsLeftBy};
 ghost use Rattle.tw_run.specs.declared.ran.By.TheVariants.{OneThread};
 ghost use Rattle.tw_seq.specs.Outcome.{outcome_of as outcome_of_run};
@@ -46,7 +46,7 @@ pub(crate) fn left_by<'a>(
     log: bool,
 ) -> Result<Ran<'a>, AllocError>
     requires settled { IsSettled sim }
-    requires log { log ≡ true → KeepsEvents sim }
+    requires log { log ≡ true → RetainsEvents sim }
     ensures outcome { IfOk result (λ ran. summary_of ran.outcome ≡ shown log (outcome_of_run (complete_run sim.entry.case sim.entry.board.stop))) }
     ensures found { IfOk result (λ ran. ran.found ≡ found) }
     ensures by { IfOk result (λ ran. IsLeftBy sim.entry ran.by) }

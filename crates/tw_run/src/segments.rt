@@ -6,7 +6,7 @@ ghost use Rattle.tw_model.specs.declared.limits.TheConstants.{LATEST};
 ghost use Rattle.tw_parallel.specs.Settled.{IsSettled};
 ghost use Rattle.tw_parallel.specs.Sim.{GoesOn, HasSameOwners, IsSim};
 ghost use Rattle.tw_run.specs.Asked.{IsReady};
-ghost use Rattle.tw_run.specs.Dealing.{AreDealt, AreDealtToAll};
+ghost use Rattle.tw_run.specs.Dealing.{AreDealtAs, AreDealtToAll};
 ghost use Rattle.tw_run.specs.Stopped.{HasStopped};
 ghost use Rattle.tw_shape.specs.Shape.{shape as shape_at};
 ghost use Rattle.tw_shape.specs.Verdict.{finding};
@@ -59,7 +59,7 @@ pub(crate) fn run_to<'a, X: Threads + Wait + Sync, O: Stages + Gate + Sync>(
     observer: &O,
 ) -> Result<Sim<'a>, Stopped<'a>>
     requires some { 0 < workers sim.board }
-    requires dealt { asked.dealing.rotate ≡ false → AreDealt asked.dealing checkpoints sim }
+    requires dealt { asked.dealing.rotate ≡ false → AreDealtAs asked.dealing checkpoints sim }
     requires checkpoints { checkpoints ≤ LATEST }
     requires stop { sim.board.stop ≤ stop }
     requires latest { stop ≤ LATEST }
@@ -67,7 +67,7 @@ pub(crate) fn run_to<'a, X: Threads + Wait + Sync, O: Stages + Gate + Sync>(
     ensures sim { IfOk result (λ s. IsSim s) }
     ensures goes_on { IfOk result (λ s. GoesOn sim.entry s) }
     ensures stop { IfOk result (λ s. s.board.stop ≡ stop) }
-    ensures dealt { IfOk result (λ s. AreDealt asked.dealing checkpoints s) }
+    ensures dealt { IfOk result (λ s. AreDealtAs asked.dealing checkpoints s) }
     ensures stopped { IfErr result (λ why. HasStopped sim.entry why) }
 {
     if !asked.dealing.rotate {
@@ -89,7 +89,7 @@ fn run_in_pieces<'a, X: Threads + Wait + Sync, O: Progress + Stages + Gate + Syn
     observer: &O,
 ) -> Result<Sim<'a>, Stopped<'a>>
     requires some { 0 < workers sim.board }
-    requires dealt { asked.dealing.rotate ≡ false → AreDealt asked.dealing checkpoints sim }
+    requires dealt { asked.dealing.rotate ≡ false → AreDealtAs asked.dealing checkpoints sim }
     requires checkpoints { checkpoints ≤ LATEST }
     requires time { sim.board.stop ≤ time }
     requires latest { time ≤ LATEST }
@@ -97,7 +97,7 @@ fn run_in_pieces<'a, X: Threads + Wait + Sync, O: Progress + Stages + Gate + Syn
     ensures sim { IfOk result (λ s. IsSim s) }
     ensures goes_on { IfOk result (λ s. GoesOn sim.entry s) }
     ensures stop { IfOk result (λ s. s.board.stop ≡ time) }
-    ensures dealt { IfOk result (λ s. AreDealt asked.dealing checkpoints s) }
+    ensures dealt { IfOk result (λ s. AreDealtAs asked.dealing checkpoints s) }
     ensures stopped { IfErr result (λ why. HasStopped sim.entry why) }
 {
     let mut run = sim;
@@ -135,13 +135,13 @@ pub(crate) fn run_through<'a, X: Threads + Wait + Sync, O: Progress + Stages + G
     observer: &O,
 ) -> Result<(Sim<'a>, Option<Finding>), Stopped<'a>>
     requires some { 0 < workers sim.board }
-    requires dealt { AreDealt asked.dealing 0 sim }
+    requires dealt { AreDealtAs asked.dealing 0 sim }
     requires opening { sim.board.stop ≡ 0 }
     requires ready { IsReady asked }
     ensures settled { IfOk result (λ left. IsSettled left.0) }
     ensures goes_on { IfOk result (λ left. GoesOn sim.entry left.0) }
     ensures stop { IfOk result (λ left. left.0.board.stop ≡ asked.stop) }
-    ensures dealt { IfOk result (λ left. (checkpoints : ℕ) × AreDealt asked.dealing checkpoints left.0) }
+    ensures dealt { IfOk result (λ left. (checkpoints : ℕ) × AreDealtAs asked.dealing checkpoints left.0) }
     ensures found { IfOk result (λ left. left.1 ≡ found_to sim.entry.case asked.stop asked.every) }
     ensures stopped { IfErr result (λ why. HasStopped sim.entry why) }
 {
@@ -169,7 +169,7 @@ fn run_watched<'a, X: Threads + Wait + Sync, O: Progress + Stages + Gate + Sync>
     observer: &O,
 ) -> Result<(Sim<'a>, Option<Finding>), Stopped<'a>>
     requires workers { 0 < workers sim.board }
-    requires dealt { AreDealt asked.dealing 0 sim }
+    requires dealt { AreDealtAs asked.dealing 0 sim }
     requires opening { sim.board.stop ≡ 0 }
     requires stop { asked.stop ≤ LATEST }
     requires some { 0 < every }
@@ -177,7 +177,7 @@ fn run_watched<'a, X: Threads + Wait + Sync, O: Progress + Stages + Gate + Sync>
     ensures settled { IfOk result (λ left. IsSettled left.0) }
     ensures goes_on { IfOk result (λ left. GoesOn sim.entry left.0) }
     ensures stop { IfOk result (λ left. left.0.board.stop ≡ asked.stop) }
-    ensures dealt { IfOk result (λ left. (checkpoints : ℕ) × AreDealt asked.dealing checkpoints left.0) }
+    ensures dealt { IfOk result (λ left. (checkpoints : ℕ) × AreDealtAs asked.dealing checkpoints left.0) }
     ensures found { IfOk result (λ left. left.1 ≡ finding sim.entry.case every (asked.stop / every)) }
     ensures stopped { IfErr result (λ why. HasStopped sim.entry why) }
 {

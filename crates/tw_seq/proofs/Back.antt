@@ -4,12 +4,12 @@ use Rattle.tw_model.specs.declared.limits.TheConstants.{LATEST}
 use Rattle.tw_model.specs.Quiet.{last_change}
 use Rattle.tw_seq.specs.declared.one_thread.OneThread.TheInside.{Inside}
 use Rattle.tw_seq.specs.Run.{IsBegun, routers_after}
-use Rattle.tw_seq.specs.Thread.{IsThread, count_of, run_of, world_after}
+use Rattle.tw_seq.specs.Thread.{IsThread, handled_count, run_of, world_after}
 
 -- a run with the same fields
 module _ (a b : Inside) (case : b.case.now ≡ a.case.now) (routers : b.routers.items ≡ a.routers.items) where
-  same_world : world_after a.case.now (count_of a.routers.items) ≡ world_after b.case.now (count_of b.routers.items)
-  same_world = λ i. world_after (sym case i) (count_of (sym routers i))
+  same_world : world_after a.case.now (handled_count a.routers.items) ≡ world_after b.case.now (handled_count b.routers.items)
+  same_world = λ i. world_after (sym case i) (handled_count (sym routers i))
 
   -- it has handled the same events
   pub same_run : b.stop ≡ a.stop → b.pending.events ≡ a.pending.events → run_of a ≡ run_of b

@@ -10,7 +10,7 @@ use Rattle.tw_model.specs.Case.{simulation}
 use Rattle.tw_model.specs.State.{Router}
 use Rattle.tw_seq.specs.declared.one_thread.OneThread.TheInside.{Inside}
 use Rattle.tw_seq.specs.Run.{IsBegun, IsNextRun, Run, routers_after, world}
-use Rattle.tw_seq.specs.Thread.{IsThread, count_of, run_of, world_after}
+use Rattle.tw_seq.specs.Thread.{IsThread, handled_count, run_of, world_after}
 use Rattle.tw_handlers.specs.Calls.{after_event, effect_at}
 use Rattle.tw_seq.specs.Turn.{receiver}
 use Rattle.tw_seq.proofs.Homes.{next_begun, next_run, next_world, sends_of}
@@ -45,20 +45,20 @@ module _ {a b : Inside} {e : Event} {old : List Router} {changed : Bool} (thread
   abbrev next : Run
   next = next_run (run_of a) e ready.next.0
 
-  own_world : world_after a.case.now (count_of a.routers.items) ≡ world (run_of a)
+  own_world : world_after a.case.now (handled_count a.routers.items) ≡ world (run_of a)
   own_world =
-      let w = world_after a.case.now (count_of a.routers.items) in
+      let w = world_after a.case.now (handled_count a.routers.items) in
       λ i. record { log = sym (reverse-reverse w.log) i; rest = sym thread.waiting i }
 
   -- the routers have counted one event more
-  counted : count_of b.routers.items ≡ count_of a.routers.items + 1
-  counted = ap count_of h.routers ∙ (count_handled old e (next_within ready) ∙ ap (λ rs. count_of rs + 1) (ready.are ∙ sym thread.routers))
+  counted : handled_count b.routers.items ≡ handled_count a.routers.items + 1
+  counted = ap handled_count h.routers ∙ (count_handled old e (next_within ready) ∙ ap (λ rs. handled_count rs + 1) (ready.are ∙ sym thread.routers))
 
-  new_world : world_after b.case.now (count_of b.routers.items) ≡ world next
+  new_world : world_after b.case.now (handled_count b.routers.items) ≡ world next
   new_world =
       let early : e.time < LATEST = omega (arith, thread.stop, ready.next.2) in
       (λ i. world_after (h.case i) (counted i))
-      ∙ goes_on (simulation a.case.now) (count_of a.routers.items) 1 LATEST (world (run_of a)) (world next) own_world (next_world (run_of a) e ready.next.0 LATEST ready.next.1 early)
+      ∙ goes_on (simulation a.case.now) (handled_count a.routers.items) 1 LATEST (world (run_of a)) (world next) own_world (next_world (run_of a) e ready.next.0 LATEST ready.next.1 early)
 
   new_events : (run_of b).events ≡ (run_of a).events ++ e ∷ []
   new_events = ap (λ w. reverse w.log) new_world ∙ reverse-reverse ((run_of a).events ++ e ∷ [])

@@ -7,7 +7,7 @@ pub mod Next
 pub mod Fields
 pub mod Logged
 pub mod Noted
-pub mod Kept
+pub mod Retained
 pub mod Resumed
 pub mod Measured
 pub mod Back

@@ -9,7 +9,7 @@ use Rattle.tw_sim.specs.Ordered.{insert_all}
 use Rattle.tw_sim.specs.Seq.{begin}
 use Rattle.tw_seq.specs.declared.one_thread.OneThread.TheInside.{Inside}
 use Rattle.tw_seq.specs.Run.{IsBegun, opening_run, routers_after}
-use Rattle.tw_seq.specs.Thread.{IsThread, count_of, run_of, world_after}
+use Rattle.tw_seq.specs.Thread.{IsThread, handled_count, run_of, world_after}
 use Rattle.tw_seq.proofs.Counted.{count_opening}
 
 -- its routers have handled nothing, and the opening events are pending
@@ -23,8 +23,8 @@ pub record IsOpening (a : Inside) : Type 0 where
   pub sent : a.sends.items ≡ []
 
 module _ (a : Inside) (h : IsOpening a) where
-  at_first : world_after a.case.now (count_of a.routers.items) ≡ begin (simulation a.case.now)
-  at_first = ap (world_after a.case.now) (ap count_of h.routers ∙ count_opening a.case.now.net (range_with_len 0 a.case.now.net.nodes))
+  at_first : world_after a.case.now (handled_count a.routers.items) ≡ begin (simulation a.case.now)
+  at_first = ap (world_after a.case.now) (ap handled_count h.routers ∙ count_opening a.case.now.net (range_with_len 0 a.case.now.net.nodes))
 
   no_events : (run_of a).events ≡ []
   no_events = ap (λ w. reverse w.log) at_first

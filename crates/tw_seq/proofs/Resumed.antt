@@ -10,7 +10,7 @@ use Rattle.tw_sim.specs.Seq.{World, begin, finished, log, rest, seq, turn, turns
 use Rattle.tw_sim.proofs.Seq.{Ends, ends, over, soon, turn_over, turns-add}
 use Rattle.tw_seq.specs.declared.one_thread.OneThread.TheInside.{Inside}
 use Rattle.tw_seq.specs.Run.{IsBegun, Run, complete_run, routers_after, world}
-use Rattle.tw_seq.specs.Thread.{IsThread, count_of, run_of, world_after}
+use Rattle.tw_seq.specs.Thread.{IsThread, handled_count, run_of, world_after}
 use Rattle.tw_seq.proofs.Counted.{count_handled, count_opening}
 use Rattle.tw_seq.proofs.Homes.{next_run, next_world}
 use Rattle.tw_seq.proofs.Next.{IsReady, next_routers, next_within}
@@ -29,7 +29,7 @@ begun_turns case is stop n = record { case = is; turns = (n, sym (same_world cas
 
 -- it has come there in as many turns as its routers have counted events
 abbrev IsCounted : Case → World Event → Type 0
-IsCounted case w = world_after case (count_of (routers_after case (reverse w.log))) ≡ w
+IsCounted case w = world_after case (handled_count (routers_after case (reverse w.log))) ≡ w
 
 module _ (case : Case) (is : IsCase case) (stop : ℕ) (early : stop ≤ LATEST) where
   counted_begin : IsCounted case (begin (simulation case))
@@ -42,15 +42,15 @@ module _ (case : Case) (is : IsCase case) (stop : ℕ) (early : stop ≤ LATEST)
   counted_turn w begun counted (soon {log = done} {x = e} {rest = later} in_time) =
       let m = simulation case in
       let run = at_world case stop w in
-      let n = count_of (routers_after case run.events) in
+      let n = handled_count (routers_after case run.events) in
       let ready : IsReady run (routers_after case run.events) e = record { begun = begun; are = refl; next = (later, refl, in_time) } in
       let in_all : e.time < LATEST = omega arith in
       let new = world (next_run run e later) in
       let turned : turn m stop done (e ∷ later) ≡ new = ap (λ v. turns m 1 stop v) (sym (same_world case stop w)) ∙ next_world run e later stop refl in_time in
       let events : reverse new.log ≡ run.events ++ e ∷ [] = reverse-reverse (run.events ++ e ∷ []) in
-      let count : count_of (routers_after case (reverse new.log)) ≡ n + 1 =
-      ap (λ xs. count_of (routers_after case xs)) events
-      ∙ (ap count_of (sym (next_routers ready)) ∙ count_handled (routers_after case run.events) e (next_within ready)) in
+      let count : handled_count (routers_after case (reverse new.log)) ≡ n + 1 =
+      ap (λ xs. handled_count (routers_after case xs)) events
+      ∙ (ap handled_count (sym (next_routers ready)) ∙ count_handled (routers_after case run.events) e (next_within ready)) in
       let reached : world_after case (n + 1) ≡ new =
       goes_on m n 1 LATEST (world run) new (counted ∙ sym (same_world case stop w)) (next_world run e later LATEST refl in_all) in
       subst (IsCounted case) (sym turned) (ap (world_after case) count ∙ reached)
@@ -85,8 +85,8 @@ pub record IsResumed (a : Inside) : Type 0 where
   pub sent : a.sends.items ≡ []
 
 module _ (a : Inside) (h : IsResumed a) where
-  there : world_after a.case.now (count_of a.routers.items) ≡ seq (simulation a.case.now) a.stop
-  there = ap (λ rs. world_after a.case.now (count_of rs)) h.routers ∙ counted_complete a.case.now h.case a.stop h.stop
+  there : world_after a.case.now (handled_count a.routers.items) ≡ seq (simulation a.case.now) a.stop
+  there = ap (λ rs. world_after a.case.now (handled_count rs)) h.routers ∙ counted_complete a.case.now h.case a.stop h.stop
 
   pub resumed_is : run_of a ≡ complete_run a.case.now a.stop
   resumed_is = λ i. record { case = a.case.now; stop = a.stop; events = reverse (there i).log; pending = h.pending i }
@@ -101,6 +101,6 @@ module _ (a : Inside) (h : IsResumed a) where
     change =
         h.change
         ∙ (ap (λ w. last_change a.case.now w.log) (sym there)
-        ∙ ap (last_change a.case.now) (sym (reverse-reverse (world_after a.case.now (count_of a.routers.items)).log)));
+        ∙ ap (last_change a.case.now) (sym (reverse-reverse (world_after a.case.now (handled_count a.routers.items)).log)));
     sent = h.sent;
   }

@@ -10,9 +10,9 @@ use Rattle.tw_seq.specs.declared.one_thread.OneThread.TheInside.{Inside}
 use Rattle.tw_seq.specs.Run.{IsBegun, Run, routers_after}
 
 -- how many events the routers have handled
-abbrev pub count_of : List Router → ℕ
-count_of [] = 0
-count_of (r ∷ routers) = r.state.counters.handled + count_of routers
+abbrev pub handled_count : List Router → ℕ
+handled_count [] = 0
+handled_count (r ∷ routers) = r.state.counters.handled + handled_count routers
 
 -- the sequential run after so many events
 abbrev pub world_after : Case → ℕ → World Event
@@ -23,7 +23,7 @@ abbrev pub run_of : Inside → Run
 run_of a = record {
   case = a.case.now;
   stop = a.stop;
-  events = reverse (world_after a.case.now (count_of a.routers.items)).log;
+  events = reverse (world_after a.case.now (handled_count a.routers.items)).log;
   pending = a.pending.events;
 }
 
@@ -32,7 +32,7 @@ pub record IsThread (a : Inside) : Type 0 where
   -- the events are those of the sequential run
   pub begun : IsBegun (run_of a)
   -- the pending events are those after as many events
-  pub waiting : a.pending.events ≡ (world_after a.case.now (count_of a.routers.items)).rest
+  pub waiting : a.pending.events ≡ (world_after a.case.now (handled_count a.routers.items)).rest
   -- the stop is within the limit
   pub stop : a.stop ≤ LATEST
   -- each router is as the events left it

@@ -11,10 +11,10 @@ use Rattle.tw_seq.specs.declared.traced_run.TracedRun.TheInside.{Inside}
 use Rattle.tw_seq.specs.Run.{IsBegun, Run}
 use Rattle.tw_sim.specs.Simulation.{only}
 
--- a run, and whether it keeps each router's events
+-- a run, and whether it retains each router's events
 pub record Traced : Type 0 where
   pub run : Run
-  pub keeps : Bool
+  pub retains : Bool
 
 -- what router r has handled of these events, the first of them first; its newest event first
 abbrev pub handled_by : Case → List Event → ℕ → List Event
@@ -47,9 +47,9 @@ logs_after case events = map (λ r. only (simulation case) r events) (range_with
 abbrev pub lists_of : {Z : Type 0} → List (Vec Event Z) → List (List Event)
 lists_of logs = map (λ log. log.items) logs
 
--- the lists that are kept, if any are
-abbrev pub kept : {Y Z : Type 0} → Option (Vec (Vec Event Z) Y) → Option (List (List Event))
-kept logs = option_map (λ logs. lists_of logs.items) logs
+-- the lists that are retained, if any are
+abbrev pub retained : {Y Z : Type 0} → Option (Vec (Vec Event Z) Y) → Option (List (List Event))
+retained logs = option_map (λ logs. lists_of logs.items) logs
 
 -- one more at the end of a router's list
 abbrev pub push_at : List (List Event) → Event → List (List Event)
@@ -61,7 +61,7 @@ HasRoom r logs = IsSomeAnd (slice_get logs.items r) (λ log. vec_len log < vec_c
 
 -- the run that the fields stand for
 abbrev pub traced_run : Inside → Traced
-traced_run a = record { run = a.run; keeps = is_some a.logs }
+traced_run a = record { run = a.run; retains = is_some a.logs }
 
 -- traces and events are those of what the run has handled
 pub record IsTraced (a : Inside) : Type 0 where

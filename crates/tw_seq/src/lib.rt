@@ -1,7 +1,7 @@
 //! The run of a case on one thread.
 //!
 //! `OneThread` takes the least pending event again and again, handles it at its router and puts what
-//! that sends among the pending events; `LoggedRun` keeps the events handled as well, and `TracedRun` notes
+//! that sends among the pending events; `LoggedRun` retains the events handled as well, and `TracedRun` notes
 //! of each router what a parallel run asks for that goes on from there. Contracts see each as a `Run`: the
 //! case, the greatest stop asked for, the events handled, oldest first, and the events pending, in order.
 //! `Running` is what all do, and `run_watched` runs any with a watch. A run can be taken apart, and one goes

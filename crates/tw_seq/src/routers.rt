@@ -5,7 +5,7 @@ ghost use Rattle.std.specs.List.{fold, range_with_len};
 ghost use Rattle.tw_model.specs.State.{opening};
 ghost use Rattle.tw_model.specs.declared.limits.TheConstants.{MOST_ROUTERS};
 ghost use Rattle.tw_model.specs.Summary.{end_of};
-ghost use Rattle.tw_seq.specs.Thread.{count_of};
+ghost use Rattle.tw_seq.specs.Thread.{handled_count};
 ghost use Rattle.tw_shape.specs.Shape.{bare};
 
 use std::alloc::{AllocError, Global};
@@ -47,7 +47,7 @@ pub(crate) fn router_ends(
 /// How many events the routers have handled.
 pub(crate) fn count_handled(routers: &[Router<'_>]) -> u64
     requires { length routers.now ≤ MOST_ROUTERS }
-    ensures { result ≡ count_of routers.now }
+    ensures { result ≡ handled_count routers.now }
 {
     let mut count = 0;
     for router in routers {

@@ -4,7 +4,7 @@ ghost use Rattle.std.specs.Prelude.{◌≡◌, ◌<◌, IfOk, IfSome, OnErr, OnO
 ghost use Rattle.tw_model.specs.declared.memory.OrMemory.TheVariants as or_memory;
 ghost use Rattle.tw_handlers.specs.Calls.{counter_full};
 ghost use Rattle.tw_seq.specs.Run.{IsBegun, IsNext, IsNextRun, IsStuck, opening_run};
-ghost use Rattle.tw_seq.specs.Traced.{HasRoom, kept, lists_of, logs_after, no_trace, noted, push_at, traces_after};
+ghost use Rattle.tw_seq.specs.Traced.{HasRoom, lists_of, logs_after, no_trace, noted, push_at, retained, traces_after};
 
 use crate::one_thread::OneThread;
 use crate::running::Running;
@@ -49,13 +49,13 @@ impl<'a> Model for TracedRun<'a> {
 
 impl<'a> TracedRun<'a> {
     /// The run of this case before its first event, which keeps each router's events or lets them go.
-    pub fn new(alloc: Global, case: &'a Case, keeps: bool) -> Result<TracedRun<'a>, AllocError>
-        ensures value { IfOk result (λ run. run ≡ record { run = opening_run case.now; keeps = keeps }) }
+    pub fn new(alloc: Global, case: &'a Case, retains: bool) -> Result<TracedRun<'a>, AllocError>
+        ensures value { IfOk result (λ run. run ≡ record { run = opening_run case.now; retains = retains }) }
     {
         let run = OneThread::new(alloc, case)?;
         let nodes = case.instance().nodes();
         let traces = opening_traces(alloc, nodes)?;
-        let logs = if keeps {
+        let logs = if retains {
             Some(empty_logs(alloc, nodes)?)
         } else {
             None
@@ -64,7 +64,7 @@ impl<'a> TracedRun<'a> {
     }
 
     /// The run goes on from where it stands, with what is noted of its routers by rising number: of each
-    /// its trace, and its events, the oldest first, where they are kept.
+    /// its trace, and its events, the oldest first, where they are retained.
     pub fn resume(
         run: OneThread<'a>,
         traces: Vec<RouterTrace>,
@@ -74,18 +74,18 @@ impl<'a> TracedRun<'a> {
         requires traces { traces.items ≡ traces_after run.case run.events }
         requires logs { IfSome logs (λ logs. lists_of logs.items ≡ logs_after run.case run.events) }
         ensures run { result.run ≡ run.entry }
-        ensures keeps { result.keeps ≡ is_some logs }
+        ensures retains { result.retains ≡ is_some logs }
     {
         TracedRun { run, traces, logs }
     }
 
-    /// The run, each router's trace, and each router's events, the oldest first, where they are kept.
+    /// The run, each router's trace, and each router's events, the oldest first, where they are retained.
     pub fn into_parts(self) -> (OneThread<'a>, Vec<RouterTrace>, Option<Vec<Vec<Event>>>)
         ensures run { result.0 ≡ self.entry.run }
         ensures traces { result.1.items ≡ traces_after self.entry.run.case self.entry.run.events }
         ensures logs { IfSome result.2
             (λ logs. lists_of logs.items ≡ logs_after self.entry.run.case self.entry.run.events) }
-        ensures keeps { is_some result.2 ≡ self.entry.keeps }
+        ensures retains { is_some result.2 ≡ self.entry.retains }
         ensures begun { IsBegun self.entry.run }
     {
         (self.run, self.traces, self.logs)
@@ -100,8 +100,8 @@ impl<'a> TracedRun<'a> {
     }
 
     /// Whether it keeps each router's events.
-    pub fn keeps(&self) -> bool
-        ensures value { result ≡ self.now.keeps }
+    pub fn retains(&self) -> bool
+        ensures value { result ≡ self.now.retains }
         ensures begun { IsBegun self.now.run }
     {
         self.logs.is_some()
@@ -120,7 +120,7 @@ impl<'a> TracedRun<'a> {
     fn handle_next(&mut self, event: &Event) -> Result<(), OrMemory<CounterFull>>
         requires { IsNext self.old.run event.now }
         ensures ok { OnOk result (IsNextRun self.old.run self.new.run) }
-        ensures keeps { self.new.keeps ≡ self.old.keeps }
+        ensures retains { self.new.retains ≡ self.old.retains }
         ensures err { OnErr result (self.new ≡ self.old) }
         ensures full { IsErrOf result (or_memory.Fault counter_full) → IsStuck self.old.run }
         ensures stuck { IsStuck self.old.run → IsErrOf result (or_memory.Fault counter_full) }
@@ -174,12 +174,12 @@ fn empty_logs(alloc: Global, nodes: u32) -> Result<Vec<Vec<Event>>, AllocError>
     Ok(logs)
 }
 
-/// Where events are kept, makes room for one more of a router.
+/// Where events are retained, makes room for one more of a router.
 #[inline(always)]
 fn make_room(logs: &mut Option<Vec<Vec<Event>>>, router: u32) -> Result<(), AllocError>
     requires { IfSome logs.old (λ logs. router < length logs.items) }
     ensures room { OnOk result (IfSome logs.new (HasRoom router)) }
-    ensures same { kept logs.new ≡ kept logs.old }
+    ensures same { retained logs.new ≡ retained logs.old }
 {
     match logs {
         Some(logs) => {
@@ -190,11 +190,11 @@ fn make_room(logs: &mut Option<Vec<Vec<Event>>>, router: u32) -> Result<(), Allo
     }
 }
 
-/// Where events are kept, puts one at the end of its router's, for which there is room.
+/// Where events are retained, puts one at the end of its router's, for which there is room.
 #[inline(always)]
 fn add(logs: &mut Option<Vec<Vec<Event>>>, event: &Event)
     requires { IfSome logs.old (HasRoom event.now.dst) }
-    ensures { kept logs.new ≡ option_map (λ lists. push_at lists event.now) (kept logs.old) }
+    ensures { retained logs.new ≡ option_map (λ lists. push_at lists event.now) (retained logs.old) }
 {
     if let Some(logs) = logs {
         logs[event.dst as usize].push_reserved(*event);

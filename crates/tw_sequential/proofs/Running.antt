@@ -3,7 +3,7 @@ use Rattle.std.proofs.Common.{◌≡◌, ℕ, ◌+◌, ◌<◌, ◌≤◌, ◌�
 use Rattle.tw_process.specs.declared.limits.TheConstants.{LATEST}
 use Rattle.tw_sequential.specs.declared.limits.TheConstants.{MOST_EVENTS}
 use Rattle.tw_sequential.specs.Run.{Continues, IsBegun, IsNext, IsNextRun, IsStuck, NoneBefore, Run, complete_run, run_after, world, world_after}
-use Rattle.tw_sequential.specs.States.{AreStates, IsKept}
+use Rattle.tw_sequential.specs.States.{AreStates, IsRunWith}
 use Rattle.tw_sim.specs.Seq.{begin, finished, insert_all, seq, turns, weight}
 use Rattle.tw_sim.specs.Simulation.{Simulation, IsLawful, only, state, times}
 use Rattle.tw_sim.proofs.Counts.{in_head}
@@ -72,7 +72,7 @@ module _ {M S E : Type 0} (m : Simulation S E) where
   module _ {T : Type 0} (is_state : ℕ → T → Type 0) (known : T → S) where
     -- a run that begins
     pub opened : (model : M) (pending : List E) (states : List T) → pending ≡ (begin m).rest → AreStates m is_state known [] states
-        → IsKept m is_state known (run_after m model 0 0 pending) 0 states
+        → IsRunWith m is_state known (run_after m model 0 0 pending) 0 states
     opened model pending states h are = record {
       begun = (0, ap (λ xs. record { log = []; rest = xs }) (sym h));
       after = ap (λ xs. record { log = []; rest = xs }) (sym h);
@@ -83,7 +83,7 @@ module _ {M S E : Type 0} (m : Simulation S E) where
 
     -- the stop is raised
     pub raised : (model : M) (stop later n : ℕ) (pending : List E) (states : List T) → stop ≤ later → later ≤ LATEST
-        → IsKept m is_state known (run_after m model stop n pending) n states → IsKept m is_state known (run_after m model later n pending) n states
+        → IsRunWith m is_state known (run_after m model stop n pending) n states → IsRunWith m is_state known (run_after m model later n pending) n states
     raised model stop later n pending states le most kept = record {
       begun = begun_later (run_after m model stop n pending) later le kept.begun;
       after = kept.after;
@@ -92,7 +92,7 @@ module _ {M S E : Type 0} (m : Simulation S E) where
       are = kept.are;
     }
 
-    module _ (model : M) (stop n : ℕ) (pending : List E) (states : List T) (kept : IsKept m is_state known (run_after m model stop n pending) n states) (e : E)
+    module _ (model : M) (stop n : ℕ) (pending : List E) (states : List T) (kept : IsRunWith m is_state known (run_after m model stop n pending) n states) (e : E)
         (next : IsNext m (run_after m model stop n pending) e) where
       -- the run
       abbrev now : Run M E
@@ -124,7 +124,7 @@ module _ {M S E : Type 0} (m : Simulation S E) where
         pub is_next : IsNextRun m now (run_after m model stop (n + 1) left)
         is_next = (refl, refl, to_next stop next.2 ∙ sym world_next)
 
-        pub kept_next : (after : List T) → AreStates m is_state known (e ∷ now.log) after → IsKept m is_state known (run_after m model stop (n + 1) left) (n + 1) after
+        pub kept_next : (after : List T) → AreStates m is_state known (e ∷ now.log) after → IsRunWith m is_state known (run_after m model stop (n + 1) left) (n + 1) after
         kept_next after are = record {
           begun = begun_next now (run_after m model stop (n + 1) left) kept.begun is_next;
           after = after_next ∙ sym world_next;

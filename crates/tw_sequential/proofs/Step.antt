@@ -1,9 +1,12 @@
 -- What handling the next event does to a run and to the states of its processes.
 use Rattle.std.proofs.Common.{◌≡◌, ℕ, ◌+◌, ◌<◌, ◌++◌, true, List, [], ◌∷◌, Some, drop, length, set, slice_get, take, refl, ap, sym, subst, inl, inr, arith}
+use Rattle.std.specs.declared.cmp.Ordering.{Ordering}
+use Rattle.tw_process.specs.Behaviour.{Behaviour, simulation_of}
+use Rattle.tw_process.specs.Parts.{Parts}
 use Rattle.tw_process.specs.declared.limits.TheConstants.{LATEST}
 use Rattle.tw_sequential.specs.declared.limits.TheConstants.{MOST_EVENTS}
 use Rattle.tw_sequential.specs.Run.{IsNext, IsNextRun, IsStuck, Run, run_after}
-use Rattle.tw_sequential.specs.States.{AreStates, IsKept}
+use Rattle.tw_sequential.specs.States.{AreStates, IsRunWith}
 use Rattle.tw_sequential.proofs.Running.{is_next, kept_next, next_suits, stuck_at}
 use Rattle.tw_sequential.proofs.States.{states_next, states_same, there}
 use Rattle.tw_sim.specs.Seq.{insert_all}
@@ -20,10 +23,22 @@ other_items n ws ys h = subst (λ k. take k (ws ++ ys) ≡ ws) h (take_front ws 
 -- e is the next event of a run that is kept so
 pub record IsReady {M T S E : Type 0} (m : Simulation S E) (is_state : ℕ → T → Type 0) (known : T → S) (model : M) (stop n : ℕ) (pending : List E) (states : List T) (e : E) : Type 0 where
   pub law : IsLawful m
-  pub kept : IsKept m is_state known (run_after m model stop n pending) n states
+  pub kept : IsRunWith m is_state known (run_after m model stop n pending) n states
   pub next : IsNext m (run_after m model stop n pending) e
 
-module _ {M T S E : Type 0} (m : Simulation S E) (is_state : ℕ → T → Type 0) (known : T → S) (model : M) (stop n : ℕ) (pending : List E) (states : List T) (e : E)
+-- of what its contract says of a run's next event
+pub ready : {M T S E : Type 0} (parts : Parts E) (cmp : E → E → Ordering) (behaviour : M → Behaviour S E) (is_state : M → ℕ → T → Type 0) (known : T → S)
+    {model : M} {stop n : ℕ} {pending : List E} {states : List T} {e : E} {run : Run M E} → IsLawful (simulation_of parts cmp (behaviour model))
+    → IsRunWith (simulation_of parts cmp (behaviour model)) (is_state model) known (run_after (simulation_of parts cmp (behaviour model)) model stop n pending) n states
+    → run_after (simulation_of parts cmp (behaviour model)) model stop n pending ≡ run → IsNext (simulation_of parts cmp (behaviour run.model)) run e
+    → IsReady (simulation_of parts cmp (behaviour model)) (is_state model) known model stop n pending states e
+ready parts cmp behaviour is_state known {e = e} law kept is next = record {
+  law = law;
+  kept = kept;
+  next = subst (λ run. IsNext (simulation_of parts cmp (behaviour run.model)) run e) (sym is) next;
+}
+
+module _ {M T S E : Type 0} {m : Simulation S E} {is_state : ℕ → T → Type 0} {known : T → S} {model : M} {stop n : ℕ} {pending : List E} {states : List T} {e : E}
     (ready : IsReady m is_state known model stop n pending states e) where
   -- the run
   abbrev now : Run M E
@@ -61,7 +76,7 @@ module _ {M T S E : Type 0} (m : Simulation S E) (is_state : ℕ → T → Type 
         let k = done before.0 before.1 in
         is_next m is_state known model stop n pending states ready.kept e ready.next (known before.0) left (is_known before.0 before.1) k.4
 
-    pub done_kept : (states' : List T) (left : List E) → IsDone states' left → IsKept m is_state known (run_after m model stop (n + 1) left) (n + 1) states'
+    pub done_kept : (states' : List T) (left : List E) → IsDone states' left → IsRunWith m is_state known (run_after m model stop (n + 1) left) (n + 1) states'
     done_kept states' left done =
         let before = receiver in
         let k = done before.0 before.1 in
@@ -73,12 +88,12 @@ module _ {M T S E : Type 0} (m : Simulation S E) (is_state : ℕ → T → Type 
     IsSame states' =
         (before : T) → slice_get states number ≡ Some before → (after : T) × (states' ≡ set states number after) × is_state number after × (known after ≡ known before)
 
-    pub same_kept : (states' : List T) (left : List E) → IsSame states' → left ≡ pending → IsKept m is_state known (run_after m model stop n left) n states'
+    pub same_kept : (states' : List T) (left : List E) → IsSame states' → left ≡ pending → IsRunWith m is_state known (run_after m model stop n left) n states'
     same_kept states' left same is =
         let before = receiver in
         let k = same before.0 before.1 in
         let are = subst (AreStates m is_state known now.log) (sym k.1) (states_same m is_state known now.log states ready.kept.are number before.0 k.0 before.1 k.2 k.3) in
-        subst (λ xs. IsKept m is_state known (run_after m model stop n xs) n states') (sym is)
+        subst (λ xs. IsRunWith m is_state known (run_after m model stop n xs) n states') (sym is)
         (record { begun = ready.kept.begun; after = ready.kept.after; counted = ready.kept.counted; stop = ready.kept.stop; are = are })
 
     -- whether it is refused for a full counter

@@ -11,7 +11,7 @@ module _ {T S E : Type 0} (m : Simulation S E) (is_state : ℕ → T → Type 0)
     pub each : (r : ℕ) (s : T) → slice_get states r ≡ Some s → is_state r s × (known s ≡ state m r (only m r log))
 
   -- what holds of a run with so many events handled and these states
-  pub record IsKept {M : Type 0} (run : Run M E) (handled : ℕ) (states : List T) : Type 0 where
+  pub record IsRunWith {M : Type 0} (run : Run M E) (handled : ℕ) (states : List T) : Type 0 where
     -- its events are those of the sequential run
     pub begun : IsBegun m run
     pub after : world_after m handled ≡ world m run

@@ -35,14 +35,14 @@ impl<'a, M: ProcessModel> Model for Sequential<'a, M> {
     ghost use Rattle.std.specs.Prelude.{◌≡◌, ◌≤◌, vec_capacity, vec_len};
     ghost use Rattle.tw_process.specs.Behaviour.{simulation_of};
     ghost use Rattle.tw_sequential.specs.Run.{Run, run_after};
-    ghost use Rattle.tw_sequential.specs.States.{IsKept};
+    ghost use Rattle.tw_sequential.specs.States.{IsRunWith};
 
     ghost Value = { Run M M.Event };
 
     ghost view = { λ a. run_after (simulation_of M.Event.parts M.Event.cmp (M.behaviour a.model.now)) a.model.now a.stop a.handled a.pending };
 
     ghost invariant = { λ a. let m = simulation_of M.Event.parts M.Event.cmp (M.behaviour a.model.now) in
-        IsKept m (M.is_state a.model.now) M.known (run_after m a.model.now a.stop a.handled a.pending) a.handled a.states.items
+        IsRunWith m (M.is_state a.model.now) M.known (run_after m a.model.now a.stop a.handled a.pending) a.handled a.states.items
         × (vec_len a.sends ≡ 0) × ((M.behaviour a.model.now).most ≤ vec_capacity a.sends) };
 }
 

@@ -25,7 +25,7 @@ pending_shard a q is routers suit = record {
     worker = is.whole.worker;
     apart = is.whole.apart;
     long = is.whole.long;
-    routers = λ r own. let at = is.whole.routers r own in record { known = at.known; within = at.within; net = at.net; node = at.node; done = at.done; case = at.case; keeps = at.keeps };
+    routers = λ r own. let at = is.whole.routers r own in record { known = at.known; within = at.within; net = at.net; node = at.node; done = at.done; case = at.case; retains = at.retains };
     pending = suit;
     held = is.whole.held;
   };

@@ -20,7 +20,7 @@ use Rattle.tw_model.specs.Net.{Net}
 use Rattle.tw_model.specs.State.{State}
 use Rattle.tw_shard.specs.declared.timeline.HandledEvent.{HandledEvent}
 use Rattle.tw_shard.specs.Commit.{committed_at, committed_to, committing, count_left, not_before}
-use Rattle.tw_shard.specs.Shard.{IsWhole, Shard, core, owns, timeline}
+use Rattle.tw_shard.specs.Shard.{IsSoundShard, Shard, owns, shard_core, timeline}
 use Rattle.tw_shard.specs.Timeline.{AreNoted, Timeline, changes_path, events_of, history, known, last_change_at, noted_change}
 use Rattle.tw_shard.proofs.Histories.{length-events, reverse-push}
 use Rattle.tw_shard.proofs.Shares.{put_same, read_put, read_same, timeline_here}
@@ -244,24 +244,24 @@ kept_history bound t =
     let n = count_left bound t.ahead in
     sym (append_assoc (take n t.ahead) (drop n t.ahead) t.past) ∙ ap (λ l. l ++ t.past) (take-append-drop n t.ahead)
 
-module _ (s : Shard) (r : ℕ) (whole : IsWhole s) (mine : owns s r ≡ true) where
+module _ (s : Shard) (r : ℕ) (whole : IsSoundShard s) (mine : owns s r ≡ true) where
   -- what was committed was before the bound
   abbrev WasEarly : Type 0
   WasEarly = AllByRecursion (λ (e : Event). e.time < (timeline s r).done) (timeline s r).past
 
-  pub core_committed : WasEarly → (stop : ℕ) → core stop (committed_at s r) ≡ with_commit (simulation s.case) (core stop s) r
+  pub core_committed : WasEarly → (stop : ℕ) → shard_core stop (committed_at s r) ≡ with_commit (simulation s.case) (shard_core stop s) r
   core_committed early stop =
       let t : Timeline = committed_to s.bound (timeline s r) in
-      let here : (core stop s).history r ≡ history (timeline s r) = rw mine refl in
+      let here : (shard_core stop s).history r ≡ history (timeline s r) = rw mine refl in
       let soon : AllByRecursion (λ (e : Event). e.time < s.bound) (timeline s r).past =
       all_map (λ (e : Event). e.time < (timeline s r).done) (λ e. e.time < s.bound) (λ e h. let done = (whole.routers r mine).done in omega arith) (timeline s r).past early in
-      let count : length t.past ≡ suffix_len (λ e. nat_lt e.time s.bound) ((core stop s).history r) =
+      let count : length t.past ≡ suffix_len (λ e. nat_lt e.time s.bound) ((shard_core stop s).history r) =
       oldest_committed s.bound (timeline s r).ahead (timeline s r).past soon ∙ ap (suffix_len (λ e. nat_lt e.time s.bound)) (sym here) in
       let histories =
       read_put s r t s.pending s.outgoing s.held whole mine history []
-      ∙ put_same (core stop s).history r (history t) (here ∙ sym (kept_history s.bound (timeline s r))) in
+      ∙ put_same (shard_core stop s).history r (history t) (here ∙ sym (kept_history s.bound (timeline s r))) in
       let dones = read_put s r t s.pending s.outgoing s.held whole mine (λ (t : Timeline). t.done) 0 in
-      let pasts = read_put s r t s.pending s.outgoing s.held whole mine (λ (t : Timeline). length t.past) 0 ∙ ap (put (core stop s).past r) count in
+      let pasts = read_put s r t s.pending s.outgoing s.held whole mine (λ (t : Timeline). length t.past) 0 ∙ ap (put (shard_core stop s).past r) count in
       let rooms = read_same s r t s.pending s.outgoing s.held whole mine (λ (t : Timeline). t.room) OPENING_ROOM refl in
       λ i. record {
         history = histories i;
@@ -278,28 +278,28 @@ module _ (s : Shard) (r : ℕ) (whole : IsWhole s) (mine : owns s r ≡ true) wh
       }
 
   -- what the machine does where the router is one of its own
-  pub goes : WasEarly → (stop : ℕ) → committing stop s r ≡ Ok (core stop (committed_at s r))
+  pub goes : WasEarly → (stop : ℕ) → committing stop s r ≡ Ok (shard_core stop (committed_at s r))
   goes early stop =
-      ap (λ b. if b then Ok (with_commit (simulation s.case) (core stop s) r) else Err NotMine) mine ∙ ap (λ c. Ok c) (sym (core_committed early stop))
+      ap (λ b. if b then Ok (with_commit (simulation s.case) (shard_core stop s) r) else Err NotMine) mine ∙ ap (λ c. Ok c) (sym (core_committed early stop))
 
   -- what is said of a router's timeline after a commit, of a history of this case
   committed_timeline : (P : Timeline → Case → List Event → Type 0) → P (committed_to s.bound (timeline s r)) (timeline s r).case (history (timeline s r))
-      → P (timeline (committed_at s r) r) s.case ((core 0 s).history r)
+      → P (timeline (committed_at s r) r) s.case ((shard_core 0 s).history r)
   committed_timeline P told =
       let t : Timeline = committed_to s.bound (timeline s r) in
       let now : timeline (committed_at s r) r ≡ t = timeline_here s r t s.pending s.outgoing s.held whole mine in
-      let here : (core 0 s).history r ≡ history (timeline s r) = rw mine refl in
-      subst (λ u. P u s.case ((core 0 s).history r)) (sym now)
+      let here : (shard_core 0 s).history r ≡ history (timeline s r) = rw mine refl in
+      subst (λ u. P u s.case ((shard_core 0 s).history r)) (sym now)
       (subst (P t s.case) (sym here) (subst (λ case. P t case (history (timeline s r))) (whole.routers r mine).case told))
 
   -- where its history is in order, all before the bound is committed
   pub past_committed : (IsFalling (simulation (timeline s r).case) (history (timeline s r))
       → (committed_to s.bound (timeline s r)).past ≡ below (simulation (timeline s r).case) s.bound (history (timeline s r)))
-      → IsFalling (simulation s.case) ((core 0 s).history r) → (timeline (committed_at s r) r).past ≡ below (simulation s.case) s.bound ((core 0 s).history r)
+      → IsFalling (simulation s.case) ((shard_core 0 s).history r) → (timeline (committed_at s r) r).past ≡ below (simulation s.case) s.bound ((shard_core 0 s).history r)
   past_committed = committed_timeline (λ t case h. IsFalling (simulation case) h → t.past ≡ below (simulation case) s.bound h)
 
   -- and what can be undone still is all that is not before the bound
   pub ahead_committed : (IsFalling (simulation (timeline s r).case) (history (timeline s r))
       → (committed_to s.bound (timeline s r)).ahead ≡ not_before s.bound (history (timeline s r)))
-      → IsFalling (simulation s.case) ((core 0 s).history r) → (timeline (committed_at s r) r).ahead ≡ not_before s.bound ((core 0 s).history r)
+      → IsFalling (simulation s.case) ((shard_core 0 s).history r) → (timeline (committed_at s r) r).ahead ≡ not_before s.bound ((shard_core 0 s).history r)
   ahead_committed = committed_timeline (λ t case h. IsFalling (simulation case) h → t.ahead ≡ not_before s.bound h)

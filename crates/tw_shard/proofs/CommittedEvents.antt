@@ -13,8 +13,8 @@ use Rattle.tw_model.specs.Case.{Case, IsCase, simulation}
 use Rattle.tw_model.proofs.Lawful.{lawful}
 use Rattle.tw_model.specs.State.{Router}
 use Rattle.tw_ordered.proofs.Spares.{sorted_whole}
-use Rattle.tw_shard.specs.Shard.{Shard, core, owns}
-use Rattle.tw_shard.specs.Shards.{HaveAll, KeepAll, ahead_in, committed_of_all, committed_in, greatest, history_in, oldest_in, shard_for}
+use Rattle.tw_shard.specs.Shard.{Shard, owns, shard_core}
+use Rattle.tw_shard.specs.Shards.{HaveAll, RetainAll, ahead_in, committed_in, committed_of_all, greatest, history_in, oldest_in, shard_for}
 use Rattle.tw_shard.specs.Timeline.{last_change_at}
 use Rattle.tw_sim.specs.Simulation.{Simulation, IsFalling, IsLawful, below, state, times}
 use Rattle.tw_sim.proofs.Counts.{in_head, times-append, times-reverse}
@@ -107,21 +107,21 @@ module _ (case : Case) (ss : List Shard) (all : HaveAll case ss) (r : ℕ) (know
   pub own_there : owns s r ≡ true
   own_there = ap (λ x. owns x r) there ∙ all.own r known
 
-  pub oldest_there : take (length (committed (simulation s.case) (core 0 s) r)) (reverse ((core 0 s).history r)) ≡ oldest_in case ss r
-  oldest_there = λ i. take (length (committed (simulation (case_there i)) (core 0 (there i)) r)) (reverse ((core 0 (there i)).history r))
+  pub oldest_there : take (length (committed (simulation s.case) (shard_core 0 s) r)) (reverse ((shard_core 0 s).history r)) ≡ oldest_in case ss r
+  oldest_there = λ i. take (length (committed (simulation (case_there i)) (shard_core 0 (there i)) r)) (reverse ((shard_core 0 (there i)).history r))
 
-  pub ahead_there : length ((core 0 s).history r) - length (committed (simulation s.case) (core 0 s) r) ≡ ahead_in case ss r
-  ahead_there = λ i. length ((core 0 (there i)).history r) - length (committed (simulation (case_there i)) (core 0 (there i)) r)
+  pub ahead_there : length ((shard_core 0 s).history r) - length (committed (simulation s.case) (shard_core 0 s) r) ≡ ahead_in case ss r
+  ahead_there = λ i. length ((shard_core 0 (there i)).history r) - length (committed (simulation (case_there i)) (shard_core 0 (there i)) r)
 
-  pub change_there : last_change_at s.case.net r ((core 0 s).history r) ≡ last_change_at case.net r (history_in ss r)
-  change_there = λ i. last_change_at (case_there i).net r ((core 0 (there i)).history r)
+  pub change_there : last_change_at s.case.net r ((shard_core 0 s).history r) ≡ last_change_at case.net r (history_in ss r)
+  change_there = λ i. last_change_at (case_there i).net r ((shard_core 0 (there i)).history r)
 
-  pub router_there : told s.case r ((core 0 s).history r) ≡ told case r (history_in ss r)
-  router_there = λ i. told (case_there i) r ((core 0 (there i)).history r)
+  pub router_there : told s.case r ((shard_core 0 s).history r) ≡ told case r (history_in ss r)
+  router_there = λ i. told (case_there i) r ((shard_core 0 (there i)).history r)
 
 -- ---- in order
 
-module _ (case : Case) (is : IsCase case) (ss : List Shard) (kept : KeepAll case ss) where
+module _ (case : Case) (is : IsCase case) (ss : List Shard) (kept : RetainAll case ss) where
   -- each event is gathered as often as it is committed
   gathered : (e : Event) (rs : List ℕ) → times (simulation case) e (flat_map (λ r. oldest_in case ss r) rs)
       ≡ times (simulation case) e (flat_map (λ r. committed_in case ss r) rs)
@@ -129,7 +129,7 @@ module _ (case : Case) (is : IsCase case) (ss : List Shard) (kept : KeepAll case
   gathered e (r ∷ rs) =
       let m = simulation case in
       let h = gathered e rs in
-      let old = ap (times m e) (oldest_below m (lawful case is) ((core 0 (shard_for ss r)).done r) (history_in ss r) (kept.falling r)) in
+      let old = ap (times m e) (oldest_below m (lawful case is) ((shard_core 0 (shard_for ss r)).done r) (history_in ss r) (kept.falling r)) in
       let same = times-reverse m e (committed_in case ss r) in
       let a = times-append m e (oldest_in case ss r) (flat_map (λ r. oldest_in case ss r) rs) in
       let b = times-append m e (committed_in case ss r) (flat_map (λ r. committed_in case ss r) rs) in

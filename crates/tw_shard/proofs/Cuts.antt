@@ -24,8 +24,8 @@ use Rattle.tw_shard.proofs.Openings.{owned_by, same_filter}
 use Rattle.tw_shard.specs.Cut.{IsShardAt, left_for, timeline_at}
 use Rattle.tw_shard.specs.Inside.{HasHandledTo}
 use Rattle.tw_shard.specs.Past.{own_run}
-use Rattle.tw_shard.specs.Roster.{AreApart, Stands, has}
-use Rattle.tw_shard.specs.Shard.{IsWhole, Shard, owns}
+use Rattle.tw_shard.specs.Roster.{StandOnce, StandsInList, has}
+use Rattle.tw_shard.specs.Shard.{IsSoundShard, Shard, owns}
 use Rattle.tw_shard.specs.Timeline.{IsTimeline, Timeline, known, last_change_at, router_of}
 use Rattle.tw_sim.proofs.Closed.{log_closed}
 use Rattle.tw_sim.proofs.Counts.{in_filter, is_order}
@@ -44,16 +44,16 @@ module _ (case : Case) (is : IsCase case) (time : ℕ) where
       (λ e h. ((closed.exact e).0 (in_filter m law (λ x. m.dst x == r) e (log m time) h).1).0)
 
   -- a router with all its events committed to the time is a timeline
-  pub stands_at : (keeps : Bool) (router : Router) (change : ℕ) → router ≡ router_of (timeline_at case keeps time router.node)
+  pub stands_at : (retains : Bool) (router : Router) (change : ℕ) → router ≡ router_of (timeline_at case retains time router.node)
       → change ≡ last_change_at case.net router.node (own_run case router.node time)
       → IsTimeline (record {
         router = router;
-        past = record { case = case; node = router.node; keeps = keeps; events = own_run case router.node time; done = time };
+        past = record { case = case; node = router.node; retains = retains; events = own_run case router.node time; done = time };
         ahead = [];
         room = OPENING_ROOM;
         past_change = change;
       })
-  stands_at keeps router change known_is changed =
+  stands_at retains router change known_is changed =
       let net : router.net ≡ case.net = ap (λ (r : Router). r.net) known_is in
       let run = own_run case router.node time in
       record {
@@ -95,9 +95,9 @@ module _ (case : Case) (is : IsCase case) (time : ℕ) where
 pub record IsAt (time : ℕ) (s : Shard) : Type 0 where
   pub case : IsCase s.case
   pub worker : s.worker < s.workers
-  pub known : (k r : ℕ) → Stands s.routers k r → r < s.case.net.nodes
-  pub apart : AreApart s.routers
-  pub timelines : s.timelines ≡ map (timeline_at s.case s.keeps time) s.routers
+  pub known : (k r : ℕ) → StandsInList s.routers k r → r < s.case.net.nodes
+  pub apart : StandOnce s.routers
+  pub timelines : s.timelines ≡ map (timeline_at s.case s.retains time) s.routers
   pub pending : s.pending ≡ filter (λ e. has s.routers e.dst) (rest (simulation s.case) time)
   pub kept : s.kept ≡ []
   pub outgoing : s.outgoing ≡ []
@@ -105,14 +105,14 @@ pub record IsAt (time : ℕ) (s : Shard) : Type 0 where
   pub bound : s.bound ≡ time
 
 module _ (time : ℕ) (s : Shard) (is : IsAt time s) where
-  laid_at : IsLaid (timeline_at s.case s.keeps time) s
+  laid_at : IsLaid (timeline_at s.case s.retains time) s
   laid_at = record {
     case = is.case;
     worker = is.worker;
     known = is.known;
     apart = is.apart;
     timelines = is.timelines;
-    lines = λ r. record { net = refl; node = refl; done = let bound = is.bound in omega arith; case = refl; keeps = refl };
+    lines = λ r. record { net = refl; node = refl; done = let bound = is.bound in omega arith; case = refl; retains = refl };
     pending =
         let P = λ (e : Event). suits s.case.net e.dst e ≡ true in
         subst (AllByRecursion P) (sym is.pending)
@@ -120,20 +120,20 @@ module _ (time : ℕ) (s : Shard) (is : IsAt time s) where
     held = is.held;
   }
 
-  pub whole_at : IsWhole s
-  whole_at = whole_laid (timeline_at s.case s.keeps time) s laid_at
+  pub whole_at : IsSoundShard s
+  whole_at = whole_laid (timeline_at s.case s.retains time) s laid_at
 
   -- what its routers have handled is before the time
   pub latest_at : (latest : ℕ) → latest ≡ time - 1 → HasHandledTo latest s
   latest_at latest last =
-      latest_laid (timeline_at s.case s.keeps time) s laid_at latest
+      latest_laid (timeline_at s.case s.retains time) s laid_at latest
       (λ r. all_map (λ e. e.time < time) (λ e. e.time ≤ latest) (λ e early. omega arith) (own_run s.case r time) (run_early s.case is.case time r))
 
   pub shard_at : (who : ℕ → ℕ) → s.routers ≡ filter (λ r. who r == s.worker) (range_with_len 0 s.case.net.nodes)
-      → IsShardAt s.case who time s.worker s.keeps s.cancel s
+      → IsShardAt s.case who time s.worker s.retains s.cancel s
   shard_at who order = record {
     owns_are = owned_by s.routers who s.worker s.case.net.nodes order;
-    routers = laid (timeline_at s.case s.keeps time) s laid_at;
+    routers = laid (timeline_at s.case s.retains time) s laid_at;
     pending = is.pending ∙ same_filter (has s.routers) (λ r. who r == s.worker) (rest (simulation s.case) time)
         (all_map (λ e. suits s.case.net e.dst e ≡ true) (λ e. has s.routers e.dst ≡ (who e.dst == s.worker))
         (λ e h. let within = suits_within s.case.net e.dst e is.case.net h in
@@ -145,7 +145,7 @@ module _ (time : ℕ) (s : Shard) (is : IsAt time s) where
     bound = is.bound;
     case_is = refl;
     worker = refl;
-    keeps_are = refl;
+    retains_are = refl;
     cancel_is = refl;
   }
 

@@ -9,7 +9,7 @@ use Rattle.tw_model.specs.Effect.{body_suits, fits, suits}
 use Rattle.tw_model.specs.Net.{Net}
 use Rattle.tw_shard.specs.declared.shard.Shard.TheInside.{Inside}
 use Rattle.tw_shard.specs.Inside.{HasHandledTo, IsShard, shard_of}
-use Rattle.tw_shard.specs.Shard.{IsWhole, owns, place}
+use Rattle.tw_shard.specs.Shard.{IsSoundShard, owns, place}
 use Rattle.tw_shard.specs.Timeline.{Timeline, history}
 use Rattle.tw_shard.proofs.Latest.{latest_changed}
 use Rattle.tw_shard.proofs.Shares.{changed, whole_after}
@@ -41,7 +41,7 @@ pub record IsChanged (a b : Inside) (r : ℕ) (t : Timeline) : Type 0 where
   pub timelines : b.timelines.items ≡ set a.timelines.items (place (shard_of a) r) t
   pub kept : b.kept.events ≡ a.kept.events
   pub bound : b.bound ≡ a.bound
-  pub keeps : b.keeps ≡ a.keeps
+  pub retains : b.retains ≡ a.retains
   pub cancel : b.cancel ≡ a.cancel
   pub pending_routers : b.pending.routers ≡ a.pending.routers
   pub kept_routers : b.kept.routers ≡ a.kept.routers
@@ -59,16 +59,16 @@ changed_is a b r t h = λ i. record {
   outgoing = b.outgoing.items;
   held = b.held.events;
   bound = sym h.bound i;
-  keeps = sym h.keeps i;
+  retains = sym h.retains i;
   cancel = sym h.cancel i;
 }
 
 pub changed_shard : (a b : Inside) (r : ℕ) (t : Timeline) → IsShard a → owns (shard_of a) r ≡ true → IsChanged a b r t
-    → t.net ≡ (shard_of a).case.net → t.node ≡ r → t.done ≤ a.bound → t.case ≡ (shard_of a).case → t.keeps ≡ (shard_of a).keeps
+    → t.net ≡ (shard_of a).case.net → t.node ≡ r → t.done ≤ a.bound → t.case ≡ (shard_of a).case → t.retains ≡ (shard_of a).retains
     → AllByRecursion (λ e. suits (shard_of a).case.net e.dst e ≡ true) b.pending.events
     → IsRising event_before event_same b.held.events → a.latest ≤ b.latest → AllByRecursion (λ (e : Event). e.time ≤ b.latest) (history t) → IsShard b
-changed_shard a b r t is mine h net node done case keeps suit rising later until = record {
-  whole = subst IsWhole (changed_is a b r t h) (whole_after (shard_of a) r t b.pending.events b.outgoing.items b.held.events is.whole mine net node done case keeps suit rising);
+changed_shard a b r t is mine h net node done case retains suit rising later until = record {
+  whole = subst IsSoundShard (changed_is a b r t h) (whole_after (shard_of a) r t b.pending.events b.outgoing.items b.held.events is.whole mine net node done case retains suit rising);
   roster = ap (λ x. x.count) h.roster ∙ (is.roster ∙ ap (λ c. c.net.nodes) (sym h.case));
   pending = h.pending_routers ∙ (is.pending ∙ ap (λ c. c.net.nodes) (sym h.case));
   kept = h.kept_routers ∙ (is.kept ∙ ap (λ c. c.net.nodes) (sym h.case));

@@ -16,9 +16,9 @@ use Rattle.tw_sim.specs.Ordered.{insert_all}
 use Rattle.tw_sim.specs.Rising.{IsRising}
 use Rattle.tw_shard.specs.Cut.{IsGone}
 use Rattle.tw_shard.specs.Inside.{HasHandledTo}
-use Rattle.tw_shard.specs.Moving.{HasCome, HasLeft}
-use Rattle.tw_shard.specs.Roster.{AreApart, IsWithout, Stands, has, place_in}
-use Rattle.tw_shard.specs.Shard.{HasTimeline, IsWhole, Shard, no_timeline, owns, place, timeline}
+use Rattle.tw_shard.specs.Moving.{HasMovedIn, HasMovedOut}
+use Rattle.tw_shard.specs.Roster.{IsWithout, StandOnce, StandsInList, has, place_in}
+use Rattle.tw_shard.specs.Shard.{HasTimeline, IsSoundShard, Shard, no_timeline, owns, place, timeline}
 use Rattle.tw_shard.specs.Timeline.{Timeline, history}
 use Rattle.tw_shard.proofs.Latest.{until_later}
 use Rattle.tw_shard.proofs.Openings.{all_inserted}
@@ -27,9 +27,9 @@ use Rattle.tw_shard.proofs.Rosters.{apart_without, beside, has_at, has_without, 
 
 -- ---- one router more at the end of a list
 
-module _ (rs : List ℕ) (r : ℕ) (apart : AreApart rs) (new : has rs r ≡ false) where
+module _ (rs : List ℕ) (r : ℕ) (apart : StandOnce rs) (new : has rs r ≡ false) where
   -- what stands in it stood there, or is the new one
-  added : (k q : ℕ) → Stands (rs ++ r ∷ []) k q → Stands rs k q ⊎ ((k ≡ length rs) × (q ≡ r))
+  added : (k q : ℕ) → StandsInList (rs ++ r ∷ []) k q → StandsInList rs k q ⊎ ((k ≡ length rs) × (q ≡ r))
   added k q at =
       let within = at.within in
       let long = length-append rs (r ∷ []) in
@@ -40,19 +40,19 @@ module _ (rs : List ℕ) (r : ℕ) (apart : AreApart rs) (new : has rs r ≡ fal
             inr (end, sym at.is ∙ (ap (λ j. get_or (rs ++ r ∷ []) j 0) end ∙ get_or-append_seam rs r [] 0)))
       ]
 
-  kept_there : (k q : ℕ) → Stands rs k q → Stands (rs ++ r ∷ []) k q
+  kept_there : (k q : ℕ) → StandsInList rs k q → StandsInList (rs ++ r ∷ []) k q
   kept_there k q at =
       let within = at.within in
       let long = length-append rs (r ∷ []) in
       record { within = omega arith; is = get_or_append_left rs (r ∷ []) 0 k within ∙ at.is }
 
-  last_there : Stands (rs ++ r ∷ []) (length rs) r
+  last_there : StandsInList (rs ++ r ∷ []) (length rs) r
   last_there = let long = length-append rs (r ∷ []) in record { within = omega arith; is = get_or-append_seam rs r [] 0 }
 
-  other : (k q : ℕ) → Stands rs k q → q ≢ r
+  other : (k q : ℕ) → StandsInList rs k q → q ≢ r
   other k q at same = false≢true (sym new ∙ subst (λ p. has rs p ≡ true) same (has_at rs k q at))
 
-  pub apart_added : AreApart (rs ++ r ∷ [])
+  pub apart_added : StandOnce (rs ++ r ∷ [])
   apart_added j k q one two =
       elim (added j q one) [
         | inl x ↦ elim (added k q two) [
@@ -94,7 +94,7 @@ module _ (rs : List ℕ) (r : ℕ) (apart : AreApart rs) (new : has rs r ≡ fal
 
 -- ---- the shard that a router leaves
 
-module _ (s : Shard) (r : ℕ) (whole : IsWhole s) (mine : owns s r ≡ true) (rs : List ℕ) (ts : List Timeline)
+module _ (s : Shard) (r : ℕ) (whole : IsSoundShard s) (mine : owns s r ≡ true) (rs : List ℕ) (ts : List Timeline)
     (routers : IsWithout ℕ 0 (place s r) s.routers rs) (lines : IsWithout Timeline no_timeline (place s r) s.timelines ts) where
   abbrev pub after_leaving : Shard
   after_leaving = record s {
@@ -105,7 +105,7 @@ module _ (s : Shard) (r : ℕ) (whole : IsWhole s) (mine : owns s r ≡ true) (r
     held = sent_by_others r s.held;
   }
 
-  there : Stands s.routers (place s r) r
+  there : StandsInList s.routers (place s r) r
   there = stands s.routers r mine
 
   owned_before : (q : ℕ) → has rs q ≡ true → owns s q ≡ true
@@ -117,7 +117,7 @@ module _ (s : Shard) (r : ℕ) (whole : IsWhole s) (mine : owns s r ≡ true) (r
   same_line : (q : ℕ) → has rs q ≡ true → (place_in rs q < length ts) × (get_or ts (place_in rs q) no_timeline ≡ timeline s q)
   same_line = beside s.routers rs (place s r) r whole.apart there routers no_timeline s.timelines ts whole.long lines
 
-  pub has_left : HasLeft r s after_leaving
+  pub has_left : HasMovedOut r s after_leaving
   has_left = record {
     routers = has_without s.routers rs (place s r) r whole.apart there routers;
     timelines = λ q ours. (same_line q ours).1;
@@ -126,12 +126,12 @@ module _ (s : Shard) (r : ℕ) (whole : IsWhole s) (mine : owns s r ≡ true) (r
     held = refl;
     outgoing = refl;
     bound = refl;
-    terms = record { case = refl; worker = refl; workers = refl; keeps = refl; cancel = refl };
+    terms = record { case = refl; worker = refl; workers = refl; retains = refl; cancel = refl };
   }
 
   -- with whatever waits and is held, the shard stays whole
   whole_with : (pending kept held : List Event) → AllByRecursion (λ e. suits s.case.net e.dst e ≡ true) pending → IsRising event_before event_same held
-      → IsWhole (record s { routers = rs; timelines = ts; pending = pending; kept = kept; held = held })
+      → IsSoundShard (record s { routers = rs; timelines = ts; pending = pending; kept = kept; held = held })
   whole_with pending kept held suit rising = record {
     case = whole.case;
     worker = whole.worker;
@@ -147,13 +147,13 @@ module _ (s : Shard) (r : ℕ) (whole : IsWhole s) (mine : owns s r ≡ true) (r
           node = ap (λ t. t.node) line.1 ∙ at.node;
           done = subst (λ (t : Timeline). t.done ≤ s.bound) (sym line.1) at.done;
           case = ap (λ t. t.case) line.1 ∙ at.case;
-          keeps = ap (λ t. t.keeps) line.1 ∙ at.keeps;
+          retains = ap (λ t. t.retains) line.1 ∙ at.retains;
         };
     pending = suit;
     held = rising;
   }
 
-  pub whole_left : IsWhole after_leaving
+  pub whole_left : IsSoundShard after_leaving
   whole_left =
       whole_with (for_others r s.pending) (for_others r s.kept) (sent_by_others r s.held)
       (all-filter event_before event_same (λ e. suits s.case.net e.dst e ≡ true) (λ e. not (e.dst == r)) s.pending whole.pending)
@@ -170,7 +170,7 @@ module _ (s : Shard) (r : ℕ) (whole : IsWhole s) (mine : owns s r ≡ true) (r
   pub is_gone : IsGone r s after_taking
   is_gone = record { routers = has_left.routers; timelines = has_left.timelines; rest = refl }
 
-  pub whole_taken : IsWhole after_taking
+  pub whole_taken : IsSoundShard after_taking
   whole_taken = whole_with s.pending s.kept s.held whole.pending whole.held
 
   pub latest_taken : (time : ℕ) → HasHandledTo time s → HasHandledTo time after_taking
@@ -178,7 +178,7 @@ module _ (s : Shard) (r : ℕ) (whole : IsWhole s) (mine : owns s r ≡ true) (r
 
 -- ---- the shard to which it comes
 
-module _ (s t : Shard) (r : ℕ) (giver : IsWhole s) (mine : owns s r ≡ true) (whole : IsWhole t) (new : owns t r ≡ false) (case : t.case ≡ s.case) (keeps : t.keeps ≡ s.keeps) where
+module _ (s t : Shard) (r : ℕ) (giver : IsSoundShard s) (mine : owns s r ≡ true) (whole : IsSoundShard t) (new : owns t r ≡ false) (case : t.case ≡ s.case) (retains : t.retains ≡ s.retains) where
   abbrev pub after_coming : Shard
   after_coming = record t {
     routers = t.routers ++ r ∷ [];
@@ -205,7 +205,7 @@ module _ (s t : Shard) (r : ℕ) (giver : IsWhole s) (mine : owns s r ≡ true) 
       let long = length-append t.timelines (timeline s r ∷ []) in
       (omega arith, ap (λ k. get_or lines k no_timeline) place ∙ get_or-append_seam t.timelines (timeline s r) [] no_timeline)
 
-  pub has_come : HasCome r s t after_coming
+  pub has_come : HasMovedIn r s t after_coming
   has_come = record {
     routers = has_added t.routers r whole.apart new;
     moved = line_of_new.1;
@@ -215,7 +215,7 @@ module _ (s t : Shard) (r : ℕ) (giver : IsWhole s) (mine : owns s r ≡ true) 
     held = refl;
     outgoing = refl;
     bound = refl;
-    terms = record { case = refl; worker = refl; workers = refl; keeps = refl; cancel = refl };
+    terms = record { case = refl; worker = refl; workers = refl; retains = refl; cancel = refl };
   }
 
   new_there : HasTimeline after_coming r
@@ -229,7 +229,7 @@ module _ (s t : Shard) (r : ℕ) (giver : IsWhole s) (mine : owns s r ≡ true) 
         node = ap (λ t. t.node) line.1 ∙ at.node;
         done = let same = ap (λ t. t.done) line.1 in let least = at.done in omega arith;
         case = ap (λ t. t.case) line.1 ∙ (at.case ∙ sym case);
-        keeps = ap (λ t. t.keeps) line.1 ∙ (at.keeps ∙ sym keeps);
+        retains = ap (λ t. t.retains) line.1 ∙ (at.retains ∙ sym retains);
       }
 
   other_there : (q : ℕ) → owns t q ≡ true → HasTimeline after_coming q
@@ -243,7 +243,7 @@ module _ (s t : Shard) (r : ℕ) (giver : IsWhole s) (mine : owns s r ≡ true) 
         node = ap (λ t. t.node) line.1 ∙ at.node;
         done = let same = ap (λ t. t.done) line.1 in let least = at.done in omega arith;
         case = ap (λ t. t.case) line.1 ∙ at.case;
-        keeps = ap (λ t. t.keeps) line.1 ∙ at.keeps;
+        retains = ap (λ t. t.retains) line.1 ∙ at.retains;
       }
 
   -- its routers are those that it had, and the new one
@@ -263,7 +263,7 @@ module _ (s t : Shard) (r : ℕ) (giver : IsWhole s) (mine : owns s r ≡ true) 
       each_owned (λ q line. AllByRecursion (λ (e : Event). e.time ≤ time) (history line)) (λ q own. until_later b time (history (timeline t q)) second (having q own))
       (until_later a time (history (timeline s r)) first (giving r mine))
 
-  pub whole_come : IsWhole after_coming
+  pub whole_come : IsSoundShard after_coming
   whole_come = record {
     case = whole.case;
     worker = whole.worker;

@@ -8,8 +8,8 @@ use Rattle.tw_event.specs.Order.{event_before, event_same}
 use Rattle.tw_model.specs.Case.{IsCase}
 use Rattle.tw_model.specs.Effect.{suits}
 use Rattle.tw_shard.specs.Inside.{HasHandledTo}
-use Rattle.tw_shard.specs.Roster.{AreApart, Stands}
-use Rattle.tw_shard.specs.Shard.{IsWhole, Shard, no_timeline, owns, place, routers, timeline}
+use Rattle.tw_shard.specs.Roster.{StandOnce, StandsInList}
+use Rattle.tw_shard.specs.Shard.{IsSoundShard, Shard, no_timeline, owns, place, routers, timeline}
 use Rattle.tw_shard.proofs.Rosters.{stands}
 use Rattle.tw_shard.proofs.Shares.{listed}
 use Rattle.tw_shard.specs.Timeline.{Timeline, history}
@@ -27,14 +27,14 @@ pub record IsLine (s : Shard) (r : ℕ) (t : Timeline) : Type 0 where
   pub node : t.node ≡ r
   pub done : t.done ≤ s.bound
   pub case : t.case ≡ s.case
-  pub keeps : t.keeps ≡ s.keeps
+  pub retains : t.retains ≡ s.retains
 
 -- each router of a shard has the timeline of its number, and nothing is held
 pub record IsLaid (line : ℕ → Timeline) (s : Shard) : Type 0 where
   pub case : IsCase s.case
   pub worker : s.worker < s.workers
-  pub known : (k r : ℕ) → Stands s.routers k r → r < s.case.net.nodes
-  pub apart : AreApart s.routers
+  pub known : (k r : ℕ) → StandsInList s.routers k r → r < s.case.net.nodes
+  pub apart : StandOnce s.routers
   pub timelines : s.timelines ≡ map line s.routers
   pub lines : (r : ℕ) → IsLine s r (line r)
   pub pending : AllByRecursion (λ e. suits s.case.net e.dst e ≡ true) s.pending
@@ -50,7 +50,7 @@ module _ (line : ℕ → Timeline) (s : Shard) (is : IsLaid line s) where
   pub laid : (r : ℕ) → owns s r ≡ true → timeline s r ≡ line r
   laid r mine = (there r mine).1
 
-  pub whole_laid : IsWhole s
+  pub whole_laid : IsSoundShard s
   whole_laid = record {
     case = is.case;
     worker = is.worker;
@@ -66,7 +66,7 @@ module _ (line : ℕ → Timeline) (s : Shard) (is : IsLaid line s) where
           node = ap (λ t. t.node) same ∙ at.node;
           done = let done = ap (λ t. t.done) same in let early = at.done in omega arith;
           case = ap (λ t. t.case) same ∙ at.case;
-          keeps = ap (λ t. t.keeps) same ∙ at.keeps;
+          retains = ap (λ t. t.retains) same ∙ at.retains;
         };
     pending = is.pending;
     held = subst (IsRising event_before event_same) (sym is.held) tt;

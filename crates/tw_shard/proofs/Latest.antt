@@ -3,7 +3,7 @@ use Rattle.std.proofs.Common.{◌≡◌, ℕ, ◌<◌, ◌≤◌, true, List, []
 use Rattle.std.specs.List.{AllByRecursion}
 use Rattle.tw_event.specs.declared.event.Event.{Event}
 use Rattle.tw_shard.specs.Inside.{HasHandledTo}
-use Rattle.tw_shard.specs.Shard.{IsWhole, Shard, owns, timeline}
+use Rattle.tw_shard.specs.Shard.{IsSoundShard, Shard, owns, timeline}
 use Rattle.tw_shard.specs.Timeline.{Timeline, history}
 use Rattle.tw_shard.proofs.Shares.{changed, each_timeline}
 use Rattle.tw_sim.specs.declared.machine.Signed.{Signed}
@@ -19,7 +19,7 @@ all_before a b [] lt all = tt
 all_before a b (e ∷ events) lt all = ((let early = all.0 in omega arith), all_before a b events lt all.1)
 
 -- with another timeline of one of its routers
-pub latest_changed : (s : Shard) (r : ℕ) (t : Timeline) (pending : List Event) (outgoing : List (Signed Event)) (held : List Event) → IsWhole s → owns s r ≡ true
+pub latest_changed : (s : Shard) (r : ℕ) (t : Timeline) (pending : List Event) (outgoing : List (Signed Event)) (held : List Event) → IsSoundShard s → owns s r ≡ true
     → (old new : ℕ) → old ≤ new → HasHandledTo old s → AllByRecursion (λ (e : Event). e.time ≤ new) (history t)
     → HasHandledTo new (changed s r t pending outgoing held)
 latest_changed s r t pending outgoing held whole mine old new le all now =

@@ -9,7 +9,7 @@ use Rattle.tw_core.specs.Steps.{after_handling, first_pending, handle, is_newest
 use Rattle.tw_event.specs.declared.event.Event.{Event}
 use Rattle.tw_event.specs.Order.{event_before}
 use Rattle.tw_model.specs.Case.{simulation}
-use Rattle.tw_shard.specs.Shard.{Shard, core, handling, handling_least, owns}
+use Rattle.tw_shard.specs.Shard.{Shard, handling, handling_least, owns, shard_core}
 use Rattle.tw_sim.specs.Ordered.{least}
 use Rattle.tw_sim.specs.Simulation.{state}
 
@@ -43,7 +43,7 @@ one_told stop s x is some = by (least event_before s.pending) is where
 pub not_own : (stop : ℕ) (s : Shard) (r : ℕ) → owns s r ≡ false → handling stop s r ≡ Err NotMine
 not_own stop s r other =
     let m = simulation s.case in
-    ap (λ b. if b then handle m (core stop s) r (first_pending m (core stop s) r) else Err NotMine) other
+    ap (λ b. if b then handle m (shard_core stop s) r (first_pending m (shard_core stop s) r) else Err NotMine) other
 
 -- what is refused to a stop is refused to each later one, but for what is not before the stop
 module _ (limit stop : ℕ) (s : Shard) (r : ℕ) (f : Refusal) (later : limit ≤ stop) (some : f ≡ Nothing → ⊥) where
@@ -60,24 +60,24 @@ module _ (limit stop : ℕ) (s : Shard) (r : ℕ) (f : Refusal) (later : limit �
   abbrev opened : ℕ → Event → Result (Core Event) Refusal
   opened time e =
       let m = simulation s.case in
-      let C = core time s in
+      let C = shard_core time s in
       if is_newest m e (C.history r) then Err Double
       else (if nat_lt (count_ahead C r) (C.room r)
       then (if m.full (state m r (C.history r)) e then Err CounterFull
       else Ok (after_handling m C r e))
       else Err AheadFull)
 
-  handled_later : (o : Option Event) → handle (simulation s.case) (core limit s) r o ≡ Err f → handle (simulation s.case) (core stop s) r o ≡ Err f
+  handled_later : (o : Option Event) → handle (simulation s.case) (shard_core limit s) r o ≡ Err f → handle (simulation s.case) (shard_core stop s) r o ≡ Err f
   handled_later None h = h
   handled_later (Some e) h =
       let m = simulation s.case in
-      let C = core limit s in
+      let C = shard_core limit s in
       elim (cases_Bool (nat_lt e.time limit)) [
         | inl soon ↦
             let early = ltb-true e.time limit soon in
             ap (λ b. if b then opened stop e else Err Nothing) (lt-ltb e.time stop (omega arith))
             ∙ whatever (is_newest m e (C.history r)) (nat_lt (count_ahead C r) (C.room r)) (m.full (state m r (C.history r)) e)
-            (after_handling m C r e) (after_handling m (core stop s) r e)
+            (after_handling m C r e) (after_handling m (shard_core stop s) r e)
             (sym (ap (λ b. if b then opened limit e else Err Nothing) soon) ∙ h)
         | inr late ↦
             let none : ◌≡◌ {A = Result (Core Event) Refusal} (Err Nothing) (Err f) = sym (ap (λ b. if b then opened limit e else Err Nothing) late) ∙ h in
@@ -90,8 +90,8 @@ module _ (limit stop : ℕ) (s : Shard) (r : ℕ) (f : Refusal) (later : limit �
       let m = simulation s.case in
       elim (cases_Bool (owns s r)) [
         | inl own ↦
-            let first = first_pending m (core limit s) r in
-            ap (λ b. if b then handle m (core stop s) r first else Err NotMine) own
-            ∙ handled_later first (sym (ap (λ b. if b then handle m (core limit s) r first else Err NotMine) own) ∙ h)
+            let first = first_pending m (shard_core limit s) r in
+            ap (λ b. if b then handle m (shard_core stop s) r first else Err NotMine) own
+            ∙ handled_later first (sym (ap (λ b. if b then handle m (shard_core limit s) r first else Err NotMine) own) ∙ h)
         | inr other ↦ not_own stop s r other ∙ (sym (not_own limit s r other) ∙ h)
       ]

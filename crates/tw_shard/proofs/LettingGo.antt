@@ -28,9 +28,9 @@ run_none case is r =
     ap (only m r) (none_there m law (log m 0) (λ e. none (times m e (log m 0)) (λ h. (let soon = ((closed.exact e).0 h).0 in absurd (omega arith)))))
 
 -- nothing is committed at first
-pub none_past : (case : Case) → IsCase case → (r : ℕ) (keeps : Bool) (items : List Event) → items ≡ [] → (if keeps then reverse items else own_run case r 0) ≡ []
-none_past case is r keeps items none =
-    elim (cases_Bool keeps) [
+pub none_past : (case : Case) → IsCase case → (r : ℕ) (retains : Bool) (items : List Event) → items ≡ [] → (if retains then reverse items else own_run case r 0) ≡ []
+none_past case is r retains items none =
+    elim (cases_Bool retains) [
       | inl stays ↦ rw stays (ap reverse none)
       | inr goes ↦ rw goes (run_none case is r)
     ]
@@ -120,11 +120,11 @@ module _ (case : Case) (is : IsCase case) (time : ℕ) where
 -- ---- the committed events, and some more
 
 -- where the newest are added to those that are kept, or else the run goes as far
-pub added : (keeps : Bool) (items more run further : List Event) (steps : List HandledEvent) → (keeps ≡ true → more ≡ items ++ events_of steps)
-    → (keeps ≡ false → events_of (reverse steps) ++ (if keeps then reverse items else run) ≡ further)
-    → (if keeps then reverse more else further) ≡ events_of (reverse steps) ++ (if keeps then reverse items else run)
-added keeps items more run further steps kept gone =
-    elim (cases_Bool keeps) [
+pub added : (retains : Bool) (items more run further : List Event) (steps : List HandledEvent) → (retains ≡ true → more ≡ items ++ events_of steps)
+    → (retains ≡ false → events_of (reverse steps) ++ (if retains then reverse items else run) ≡ further)
+    → (if retains then reverse more else further) ≡ events_of (reverse steps) ++ (if retains then reverse items else run)
+added retains items more run further steps kept gone =
+    elim (cases_Bool retains) [
       | inl stays ↦ rw stays (ap reverse (kept stays) ∙ past_events items steps)
       | inr goes ↦ rw goes (sym (ap (λ (b : Bool). events_of (reverse steps) ++ (if b then reverse items else run)) (sym goes) ∙ gone goes))
     ]

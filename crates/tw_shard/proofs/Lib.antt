@@ -17,6 +17,7 @@ pub mod Releasing
 pub mod Reports
 pub mod RollBack
 pub mod Rosters
+pub mod OwnRouters
 pub mod Shares
 pub mod Steps
 pub mod Walks

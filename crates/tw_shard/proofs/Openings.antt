@@ -15,9 +15,9 @@ use Rattle.tw_model.proofs.Lawful.{lawful}
 use Rattle.tw_model.proofs.Within.{suits_within}
 use Rattle.tw_ordered.proofs.Ordered.{all-filter}
 use Rattle.tw_shard.specs.Inside.{HasHandledTo}
-use Rattle.tw_shard.specs.Roster.{AreApart, Stands, has}
-use Rattle.tw_shard.specs.Shard.{IsOpeningBy, IsWhole, Shard, core, opening_core_by, owns, timeline}
-use Rattle.tw_shard.proofs.Rosters.{has_own}
+use Rattle.tw_shard.specs.Roster.{StandOnce, StandsInList, has}
+use Rattle.tw_shard.specs.Shard.{IsOpeningBy, IsSoundShard, Shard, opening_core_by, owns, shard_core, timeline}
+use Rattle.tw_shard.proofs.OwnRouters.{has_own}
 use Rattle.tw_shard.specs.Timeline.{Timeline, history, opening_timeline}
 use Rattle.tw_sim.specs.Ordered.{insert, insert_all}
 use Rattle.tw_sim.proofs.Counts.{is_order}
@@ -60,9 +60,9 @@ owned_by rs who k nodes order r = ap (λ rs. has rs r) order ∙ has_own (λ r. 
 pub record IsBegun (s : Shard) : Type 0 where
   pub case : IsCase s.case
   pub worker : s.worker < s.workers
-  pub known : (k r : ℕ) → Stands s.routers k r → r < s.case.net.nodes
-  pub apart : AreApart s.routers
-  pub timelines : s.timelines ≡ map (opening_timeline s.case s.keeps) s.routers
+  pub known : (k r : ℕ) → StandsInList s.routers k r → r < s.case.net.nodes
+  pub apart : StandOnce s.routers
+  pub timelines : s.timelines ≡ map (opening_timeline s.case s.retains) s.routers
   pub pending : s.pending ≡ insert_all event_before (filter (λ e. owns s e.dst) (opening_events s.case.scenes)) []
   pub kept : s.kept ≡ []
   pub outgoing : s.outgoing ≡ []
@@ -70,14 +70,14 @@ pub record IsBegun (s : Shard) : Type 0 where
   pub bound : s.bound ≡ 0
 
 module _ (s : Shard) (is : IsBegun s) where
-  laid_begun : IsLaid (opening_timeline s.case s.keeps) s
+  laid_begun : IsLaid (opening_timeline s.case s.retains) s
   laid_begun = record {
     case = is.case;
     worker = is.worker;
     known = is.known;
     apart = is.apart;
     timelines = is.timelines;
-    lines = λ r. record { net = refl; node = refl; done = omega arith; case = refl; keeps = refl };
+    lines = λ r. record { net = refl; node = refl; done = omega arith; case = refl; retains = refl };
     pending =
         let P = λ (e : Event). suits s.case.net e.dst e ≡ true in
         let own = λ (e : Event). owns s e.dst in
@@ -87,11 +87,11 @@ module _ (s : Shard) (is : IsBegun s) where
   }
 
   -- each of its routers is as it begins
-  pub opened : (r : ℕ) → owns s r ≡ true → timeline s r ≡ opening_timeline s.case s.keeps r
-  opened r mine = laid (opening_timeline s.case s.keeps) s laid_begun r mine
+  pub opened : (r : ℕ) → owns s r ≡ true → timeline s r ≡ opening_timeline s.case s.retains r
+  opened r mine = laid (opening_timeline s.case s.retains) s laid_begun r mine
 
   -- what is read of each router is what is there where there is none
-  read_opened : {A : Type 0} (read : Timeline → A) (none : A) → ((r : ℕ) → read (opening_timeline s.case s.keeps r) ≡ none)
+  read_opened : {A : Type 0} (read : Timeline → A) (none : A) → ((r : ℕ) → read (opening_timeline s.case s.retains r) ≡ none)
       → ◌≡◌ {A = ℕ → A} (λ r. if owns s r then read (timeline s r) else none) (λ r. none)
   read_opened read none same =
       fun_ext (λ r. elim (cases_Bool (owns s r)) [
@@ -99,12 +99,12 @@ module _ (s : Shard) (is : IsBegun s) where
         | inr other ↦ rw other refl
       ])
 
-  pub whole_begun : IsWhole s
-  whole_begun = whole_laid (opening_timeline s.case s.keeps) s laid_begun
+  pub whole_begun : IsSoundShard s
+  whole_begun = whole_laid (opening_timeline s.case s.retains) s laid_begun
 
   -- and none has handled anything
   pub latest_begun : HasHandledTo 0 s
-  latest_begun = latest_laid (opening_timeline s.case s.keeps) s laid_begun 0 (λ r. tt)
+  latest_begun = latest_laid (opening_timeline s.case s.retains) s laid_begun 0 (λ r. tt)
 
   -- the routers are the worker's
   own_by : (who : ℕ → ℕ) → s.routers ≡ filter (λ r. who r == s.worker) (range_with_len 0 s.case.net.nodes)
@@ -113,7 +113,7 @@ module _ (s : Shard) (is : IsBegun s) where
 
   -- as a machine of its own routers it begins
   core_begun : (who : ℕ → ℕ) → s.routers ≡ filter (λ r. who r == s.worker) (range_with_len 0 s.case.net.nodes)
-      → (stop : ℕ) → core stop s ≡ opening_core_by s.case who s.worker s.cancel stop
+      → (stop : ℕ) → shard_core stop s ≡ opening_core_by s.case who s.worker s.cancel stop
   core_begun who order stop =
       let histories = read_opened history [] (λ r. refl) in
       let dones = read_opened (λ (t : Timeline). t.done) 0 (λ r. refl) in
@@ -140,7 +140,7 @@ module _ (s : Shard) (is : IsBegun s) where
       }
 
   pub opening : (who : ℕ → ℕ) → s.routers ≡ filter (λ r. who r == s.worker) (range_with_len 0 s.case.net.nodes)
-      → IsOpeningBy s.case who s.worker s.workers s.keeps s.cancel s
+      → IsOpeningBy s.case who s.worker s.workers s.retains s.cancel s
   opening who order = record {
     core_is = core_begun who order;
     owns_are = own_by who order;
@@ -149,5 +149,5 @@ module _ (s : Shard) (is : IsBegun s) where
     case_is = refl;
     worker = refl;
     count = refl;
-    keeps_are = refl;
+    retains_are = refl;
   }

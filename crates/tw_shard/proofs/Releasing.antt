@@ -10,7 +10,7 @@ use Rattle.tw_model.proofs.Lawful.{lawful}
 use Rattle.tw_ordered.proofs.Released.{no_length, none_passes}
 use Rattle.tw_shard.specs.declared.shard.Shard.TheInside.{Inside}
 use Rattle.tw_shard.specs.Inside.{IsShard}
-use Rattle.tw_shard.specs.Shard.{Shard, core, owns, released_at, releasing}
+use Rattle.tw_shard.specs.Shard.{Shard, owns, released_at, releasing, shard_core}
 use Rattle.tw_shard.specs.Timeline.{signed}
 use Rattle.tw_sim.specs.Rising.{IsRising}
 use Rattle.tw_sim.proofs.Rising.{rising-filter}
@@ -24,7 +24,7 @@ sent_shard a b is same routers rising = subst IsShard (sym same) (record {
     worker = is.whole.worker;
     apart = is.whole.apart;
     long = is.whole.long;
-    routers = λ r own. let at = is.whole.routers r own in record { known = at.known; within = at.within; net = at.net; node = at.node; done = at.done; case = at.case; keeps = at.keeps };
+    routers = λ r own. let at = is.whole.routers r own in record { known = at.known; within = at.within; net = at.net; node = at.node; done = at.done; case = at.case; retains = at.retains };
     pending = is.whole.pending;
     held = rising;
   };
@@ -50,9 +50,9 @@ none_released s r none =
     λ i. record s { outgoing = sent i; held = held i }
 
 -- what the machine does where the router is one of its own
-pub releases : (stop : ℕ) (s : Shard) (r : ℕ) → owns s r ≡ true → releasing stop s r ≡ Ok (core stop (released_at s r))
-releases stop s r mine = ap (λ b. if b then Ok (with_release (simulation s.case) (core stop s) r) else Err NotMine) mine
+pub releases : (stop : ℕ) (s : Shard) (r : ℕ) → owns s r ≡ true → releasing stop s r ≡ Ok (shard_core stop (released_at s r))
+releases stop s r mine = ap (λ b. if b then Ok (with_release (simulation s.case) (shard_core stop s) r) else Err NotMine) mine
 
 -- and where it is not
 pub refuses : (stop : ℕ) (s : Shard) (r : ℕ) → owns s r ≡ false → releasing stop s r ≡ Err NotMine
-refuses stop s r other = ap (λ b. if b then Ok (with_release (simulation s.case) (core stop s) r) else Err NotMine) other
+refuses stop s r other = ap (λ b. if b then Ok (with_release (simulation s.case) (shard_core stop s) r) else Err NotMine) other

@@ -13,7 +13,7 @@ use Rattle.tw_model.proofs.Lawful.{lawful}
 use Rattle.tw_shard.specs.Arrival.{IsRolledBack, rolls}
 use Rattle.tw_shard.specs.declared.rejection.Reach.{Reach}
 use Rattle.tw_shard.specs.declared.rejection.Reach.TheVariants.{From, Later}
-use Rattle.tw_shard.specs.Shard.{IsSameShare, IsUndone, IsWhole, Shard, core, owns, timeline, undone_at}
+use Rattle.tw_shard.specs.Shard.{IsSameShare, IsSoundShard, IsUndone, Shard, owns, shard_core, timeline, undone_at}
 use Rattle.tw_shard.specs.Timeline.{history}
 use Rattle.tw_shard.proofs.Shares.{timeline_here}
 use Rattle.tw_shard.proofs.Steps.{core_undone}
@@ -62,15 +62,15 @@ pub record IsRolling (reach : Reach) (e : Event) (s t : Shard) : Type 0 where
   pub kept : t.kept ≡ s.kept
   pub bound : t.bound ≡ s.bound
   -- what was undone
-  pub undone : (stop : ℕ) → IsRolledBack (simulation t.case) e (core stop s) (core stop t)
+  pub undone : (stop : ℕ) → IsRolledBack (simulation t.case) e (shard_core stop s) (shard_core stop t)
   -- what is still to be undone leads to the same
-  pub rest : (stop : ℕ) → after_undoing_while (simulation t.case) (rolls reach e) e.dst (history (timeline t e.dst)) (core stop t)
-      ≡ after_undoing_while (simulation t.case) (rolls reach e) e.dst (history (timeline s e.dst)) (core stop s)
+  pub rest : (stop : ℕ) → after_undoing_while (simulation t.case) (rolls reach e) e.dst (history (timeline t e.dst)) (shard_core stop t)
+      ≡ after_undoing_while (simulation t.case) (rolls reach e) e.dst (history (timeline s e.dst)) (shard_core stop s)
 
 pub rolling_none : (reach : Reach) (e : Event) (s : Shard) → owns s e.dst ≡ true → IsRolling reach e s s
 rolling_none reach e s own = record {
   own = own;
-  share = record { case = refl; worker = refl; workers = refl; routers = refl; keeps = refl; cancel = refl };
+  share = record { case = refl; worker = refl; workers = refl; routers = refl; retains = refl; cancel = refl };
   kept = refl;
   bound = refl;
   undone = λ stop. (0, refl);
@@ -81,7 +81,7 @@ rolling_none reach e s own = record {
 abbrev pub must_go : Reach → Event → Shard → Type 0
 must_go reach e t = option_map_or (λ newest. rolls reach e newest) (slice_get (timeline t e.dst).ahead 0) false ≡ true
 
-pub rolling_more : (reach : Reach) (e : Event) (s t u : Shard) → IsWhole t → IsRolling reach e s t → must_go reach e t → IsUndone e.dst t u → IsRolling reach e s u
+pub rolling_more : (reach : Reach) (e : Event) (s t u : Shard) → IsSoundShard t → IsRolling reach e s t → must_go reach e t → IsUndone e.dst t u → IsRolling reach e s u
 rolling_more reach e s t u whole far must h =
     let m = simulation t.case in
     let r = e.dst in
@@ -90,20 +90,20 @@ rolling_more reach e s t u whole far must h =
     let past = (timeline t r).past in
     let newest : history (timeline t r) ≡ x ∷ (older ++ past) = ap (λ ahead. ahead ++ past) h.2 in
     let goes : rolls reach e x ≡ true = ap (λ ahead. option_map_or (λ newest. rolls reach e newest) (slice_get ahead 0) false) (sym h.2) ∙ must in
-    let here : (stop : ℕ) → (core stop t).history r ≡ x ∷ (older ++ past) = λ stop. (let own = far.own in rw own newest) in
-    let one : (stop : ℕ) → core stop (undone_at t r x older) ≡ after_undoing m (core stop t) r x (older ++ past) = λ stop. core_undone t r whole far.own stop x older h.3 in
+    let here : (stop : ℕ) → (shard_core stop t).history r ≡ x ∷ (older ++ past) = λ stop. (let own = far.own in rw own newest) in
+    let one : (stop : ℕ) → shard_core stop (undone_at t r x older) ≡ after_undoing m (shard_core stop t) r x (older ++ past) = λ stop. core_undone t r whole far.own stop x older h.3 in
     let left : history (timeline (undone_at t r x older) r) ≡ older ++ past =
     ap history (timeline_here t r (record (timeline t r) { ahead = older }) (undone_at t r x older).pending (undone_at t r x older).outgoing (undone_at t r x older).held whole far.own) in
     subst (IsRolling reach e s) (sym h.4) (record {
       own = far.own;
-      share = record { case = far.share.case; worker = far.share.worker; workers = far.share.workers; routers = far.share.routers; keeps = far.share.keeps; cancel = far.share.cancel };
+      share = record { case = far.share.case; worker = far.share.worker; workers = far.share.workers; routers = far.share.routers; retains = far.share.retains; cancel = far.share.cancel };
       kept = far.kept;
       bound = far.bound;
-      undone = λ stop. (suc (far.undone stop).0, (core stop t, (far.undone stop).1, (x, older ++ past, here stop, rolled_late t.case whole.case reach e x goes, one stop)));
+      undone = λ stop. (suc (far.undone stop).0, (shard_core stop t, (far.undone stop).1, (x, older ++ past, here stop, rolled_late t.case whole.case reach e x goes, one stop)));
       rest = λ stop.
           (λ i. after_undoing_while m (rolls reach e) r (left i) (one stop i))
-          ∙ (sym (ap (λ b. cond b (after_undoing_while m (rolls reach e) r (older ++ past) (after_undoing m (core stop t) r x (older ++ past))) (core stop t)) goes)
-          ∙ (ap (λ xs. after_undoing_while m (rolls reach e) r xs (core stop t)) (sym newest) ∙ far.rest stop));
+          ∙ (sym (ap (λ b. cond b (after_undoing_while m (rolls reach e) r (older ++ past) (after_undoing m (shard_core stop t) r x (older ++ past))) (shard_core stop t)) goes)
+          ∙ (ap (λ xs. after_undoing_while m (rolls reach e) r xs (shard_core stop t)) (sym newest) ∙ far.rest stop));
     })
 
 -- nothing more is to be undone: committed events are before what comes
@@ -119,21 +119,21 @@ times_before k t [] le all = tt
 times_before k t (p ∷ past) le all = ((let early = all.0 in omega arith), times_before k t past le all.1)
 
 -- the rollback is whole
-pub rolling_done : (reach : Reach) (e : Event) (s t : Shard) → IsWhole t → IsRolling reach e s t → owns s e.dst ≡ true → s.bound ≤ e.time
+pub rolling_done : (reach : Reach) (e : Event) (s t : Shard) → IsSoundShard t → IsRolling reach e s t → owns s e.dst ≡ true → s.bound ≤ e.time
     → option_map_or (λ newest. rolls reach e newest) (slice_get (timeline t e.dst).ahead 0) false ≡ false
     → AllByRecursion (λ (p : Event). p.time < (timeline t e.dst).done) (timeline t e.dst).past
-    → (stop : ℕ) → core stop t ≡ after_undoing_while (simulation s.case) (rolls reach e) e.dst ((core stop s).history e.dst) (core stop s)
+    → (stop : ℕ) → shard_core stop t ≡ after_undoing_while (simulation s.case) (rolls reach e) e.dst ((shard_core stop s).history e.dst) (shard_core stop s)
 rolling_done reach e s t whole far mine late stops past stop =
     let line = timeline t e.dst in
     let own = whole.routers e.dst far.own in
     let early = let done = own.done in let bound = far.bound in times_before line.done e.time line.past (omega arith) past in
-    let here : (core stop s).history e.dst ≡ history (timeline s e.dst) = rw mine refl in
-    sym (done_here t.case whole.case reach e line.ahead line.past (core stop t) stops early)
+    let here : (shard_core stop s).history e.dst ≡ history (timeline s e.dst) = rw mine refl in
+    sym (done_here t.case whole.case reach e line.ahead line.past (shard_core stop t) stops early)
     ∙ (far.rest stop
-    ∙ (λ i. after_undoing_while (simulation (far.share.case i)) (rolls reach e) e.dst (sym here i) (core stop s)))
+    ∙ (λ i. after_undoing_while (simulation (far.share.case i)) (rolls reach e) e.dst (sym here i) (shard_core stop s)))
 
 -- fewer events are left that can be undone
-pub fewer_left : (t u : Shard) (r : ℕ) → IsWhole t → owns t r ≡ true → IsUndone r t u → length (timeline u r).ahead < length (timeline t r).ahead
+pub fewer_left : (t u : Shard) (r : ℕ) → IsSoundShard t → owns t r ≡ true → IsUndone r t u → length (timeline u r).ahead < length (timeline t r).ahead
 fewer_left t u r whole mine h =
     let s = undone_at t r h.0 h.1 in
     let left = ap (λ l. length l.ahead) (timeline_here t r (record (timeline t r) { ahead = h.1 }) s.pending s.outgoing s.held whole mine) in
@@ -142,19 +142,19 @@ fewer_left t u r whole mine h =
     omega arith
 
 -- what was undone, by the case that the shard had before
-pub rolled_so_far : (reach : Reach) (e : Event) (s t u : Shard) → IsRolling reach e s t → u ≡ t → (stop : ℕ) → IsRolledBack (simulation s.case) e (core stop s) (core stop u)
+pub rolled_so_far : (reach : Reach) (e : Event) (s t u : Shard) → IsRolling reach e s t → u ≡ t → (stop : ℕ) → IsRolledBack (simulation s.case) e (shard_core stop s) (shard_core stop u)
 rolled_so_far reach e s t u far is stop =
-    subst (λ v. IsRolledBack (simulation s.case) e (core stop s) (core stop v)) (sym is)
-    (subst (λ case. IsRolledBack (simulation case) e (core stop s) (core stop t)) far.share.case (far.undone stop))
+    subst (λ v. IsRolledBack (simulation s.case) e (shard_core stop s) (shard_core stop v)) (sym is)
+    (subst (λ case. IsRolledBack (simulation case) e (shard_core stop s) (shard_core stop t)) far.share.case (far.undone stop))
 
 -- the same from a shard that is equal
-pub rolled_from : (s o t : Shard) (e : Event) → s ≡ o → ((stop : ℕ) → IsRolledBack (simulation s.case) e (core stop s) (core stop t))
-    → (stop : ℕ) → IsRolledBack (simulation o.case) e (core stop o) (core stop t)
-rolled_from s o t e is h stop = subst (λ s. IsRolledBack (simulation s.case) e (core stop s) (core stop t)) is (h stop)
+pub rolled_from : (s o t : Shard) (e : Event) → s ≡ o → ((stop : ℕ) → IsRolledBack (simulation s.case) e (shard_core stop s) (shard_core stop t))
+    → (stop : ℕ) → IsRolledBack (simulation o.case) e (shard_core stop o) (shard_core stop t)
+rolled_from s o t e is h stop = subst (λ s. IsRolledBack (simulation s.case) e (shard_core stop s) (shard_core stop t)) is (h stop)
 
 -- nothing was undone
-pub rolled_none : (o t : Shard) (e : Event) → t ≡ o → (stop : ℕ) → IsRolledBack (simulation o.case) e (core stop o) (core stop t)
-rolled_none o t e is stop = (0, ap (core stop) is)
+pub rolled_none : (o t : Shard) (e : Event) → t ≡ o → (stop : ℕ) → IsRolledBack (simulation o.case) e (shard_core stop o) (shard_core stop t)
+rolled_none o t e is stop = (0, ap (shard_core stop) is)
 
 -- what holds in any case holds at an error
 pub on_err : {A E : Type 0} {P : Type 0} (r : Result A E) → P → OnErr r P
@@ -162,6 +162,6 @@ on_err (Ok a) p = tt
 on_err (Err e) p = p
 
 -- the same to a shard that is equal
-pub rolled_to : (o t u : Shard) (e : Event) → u ≡ t → ((stop : ℕ) → IsRolledBack (simulation o.case) e (core stop o) (core stop t))
-    → (stop : ℕ) → IsRolledBack (simulation o.case) e (core stop o) (core stop u)
-rolled_to o t u e is h stop = subst (λ u. IsRolledBack (simulation o.case) e (core stop o) (core stop u)) (sym is) (h stop)
+pub rolled_to : (o t u : Shard) (e : Event) → u ≡ t → ((stop : ℕ) → IsRolledBack (simulation o.case) e (shard_core stop o) (shard_core stop t))
+    → (stop : ℕ) → IsRolledBack (simulation o.case) e (shard_core stop o) (shard_core stop u)
+rolled_to o t u e is h stop = subst (λ u. IsRolledBack (simulation o.case) e (shard_core stop o) (shard_core stop u)) (sym is) (h stop)

@@ -1,25 +1,23 @@
 -- Where routers stand in a list of them, and the table of their places.
-use Rattle.std.proofs.Common.{◌≡◌, ◌≢◌, ◌⊎◌, ℕ, zero, suc, ◌+◌, ◌-◌, ◌<◌, ◌≤◌, ◌==◌, ◌++◌, ◌∷◌, ◌&&◌, [], Bool, true, false, not, List, Some, None, filter, if◌then◌else◌, get_or, length, nat_eq, nat_lt, set, slice_get, refl, ap, sym, ◌∙◌, subst, inl, inr, arith}
-use Rattle.std.specs.List.{AllByRecursion, range_with_len}
+use Rattle.std.proofs.Common.{◌≡◌, ◌≢◌, ◌⊎◌, ℕ, suc, ◌+◌, ◌-◌, ◌<◌, ◌≤◌, ◌==◌, ◌++◌, ◌∷◌, ◌&&◌, [], Bool, true, false, not, List, Some, None, get_or, length, nat_eq, set, slice_get, refl, ap, sym, ◌∙◌, subst, inl, inr, arith}
+use Rattle.std.specs.List.{AllByRecursion}
 use Rattle.circular_buffer.proofs.Places.{slice_get-set_other, slice_get-set_same}
 use Rattle.std.proofs.Math.Seq.{get_or-append_seam}
-use Rattle.std.proofs.lemmas.Bool.{cases_Bool, cases_eq, cases_lt, eq-eqb, eqb-true, false≢true, false_from_ne_true, lt-ltb, ltb-false, ltb-true, ne_eqb}
-use Rattle.std.proofs.lemmas.List.Elements.{filter-append}
-use Rattle.std.proofs.lemmas.List.{append-nil, get_or_append_left, length-append, length-set}
+use Rattle.std.proofs.lemmas.Bool.{cases_Bool, cases_eq, cases_lt, eq-eqb, eqb-true, false≢true, false_from_ne_true, lt-ltb, ltb-true, ne_eqb}
+use Rattle.std.proofs.lemmas.List.{get_or_append_left, length-append, length-set}
 use Rattle.std.proofs.lemmas.List.Sums.{fails_before_first, passes_at_first, position_or_len_is}
 use Rattle.std.proofs.lemmas.Option.{none-some, slice_get-get_or, slice_get_within}
-use Rattle.tw_instance.proofs.Lists.{range_push}
-use Rattle.tw_shard.specs.Roster.{AreApart, IsRoster, IsTableOf, IsWithout, Stands, has, place_in}
+use Rattle.tw_shard.specs.Roster.{IsRoster, IsTableOf, IsWithout, StandOnce, StandsInList, has, place_in}
 
 -- a router of the list stands at its place
-pub stands : (rs : List ℕ) (r : ℕ) → has rs r ≡ true → Stands rs (place_in rs r) r
+pub stands : (rs : List ℕ) (r : ℕ) → has rs r ≡ true → StandsInList rs (place_in rs r) r
 unfolding has
 stands rs r h =
     let within = ltb-true (place_in rs r) (length rs) h in
     record { within = within; is = eqb-true (get_or rs (place_in rs r) 0) r (passes_at_first (λ q. q == r) rs 0 within) }
 
 -- where a router stands is its place, if none stands at two
-pub place_is : (rs : List ℕ) (k r : ℕ) → AreApart rs → Stands rs k r → place_in rs r ≡ k
+pub place_is : (rs : List ℕ) (k r : ℕ) → StandOnce rs → StandsInList rs k r → place_in rs r ≡ k
 place_is rs k r apart at =
     position_or_len_is (λ q. q == r) rs k 0 (let within = at.within in omega arith)
     (λ j before. ne_eqb (get_or rs j 0) r (λ same.
@@ -27,7 +25,7 @@ place_is rs k r apart at =
     (λ within. eq-eqb (get_or rs k 0) r at.is)
 
 -- and it is one of the list
-pub stands_has : (rs : List ℕ) (k r : ℕ) → AreApart rs → Stands rs k r → has rs r ≡ true
+pub stands_has : (rs : List ℕ) (k r : ℕ) → StandOnce rs → StandsInList rs k r → has rs r ≡ true
 unfolding has
 stands_has rs k r apart at =
     let place = place_is rs k r apart at in
@@ -35,7 +33,7 @@ stands_has rs k r apart at =
     lt-ltb (place_in rs r) (length rs) (omega arith)
 
 -- a router that stands somewhere is one of them
-pub has_at : (rs : List ℕ) (k r : ℕ) → Stands rs k r → has rs r ≡ true
+pub has_at : (rs : List ℕ) (k r : ℕ) → StandsInList rs k r → has rs r ≡ true
 unfolding has
 has_at rs k r at =
     elim (cases_lt k (place_in rs r)) [
@@ -44,7 +42,7 @@ has_at rs k r at =
     ]
 
 -- what holds of each that stands there holds of all
-pub all_standing : (P : ℕ → Type 0) (rs : List ℕ) → ((k r : ℕ) → Stands rs k r → P r) → AllByRecursion P rs
+pub all_standing : (P : ℕ → Type 0) (rs : List ℕ) → ((k r : ℕ) → StandsInList rs k r → P r) → AllByRecursion P rs
 all_standing P [] each = tt
 all_standing P (r ∷ rs) each = (
   each 0 r (record { within = omega arith; is = refl }),
@@ -62,7 +60,7 @@ listed_at rs r mine =
     slice_get-get_or rs (place_in rs r) 0 at.within ∙ ap Some at.is
 
 -- a router that stands nowhere is none of them
-pub stands_not : (rs : List ℕ) (r : ℕ) → ((k : ℕ) → Stands rs k r → ⊥) → has rs r ≡ false
+pub stands_not : (rs : List ℕ) (r : ℕ) → ((k : ℕ) → StandsInList rs k r → ⊥) → has rs r ≡ false
 stands_not rs r none = false_from_ne_true (has rs r) (λ there. none (place_in rs r) (stands rs r there))
 
 and_false : (b : Bool) → (b && false) ≡ false
@@ -75,10 +73,10 @@ same_of j k h = cc h
 -- ---- the table of places
 
 module _ (rs ps : List ℕ) (t : IsTableOf rs ps) where
-  pub table_known : (k r : ℕ) → Stands rs k r → r < length ps
+  pub table_known : (k r : ℕ) → StandsInList rs k r → r < length ps
   table_known k r at = slice_get_within ps r k (t.here k r at)
 
-  pub table_apart : AreApart rs
+  pub table_apart : StandOnce rs
   table_apart j k r one two = same_of j k (sym (t.here j r one) ∙ t.here k r two)
 
   pub is_roster : (room : ℕ) → IsRoster (record { count = length ps; routers = rs; room = room })
@@ -112,7 +110,7 @@ module _ (rs ps : List ℕ) (t : IsTableOf rs ps) where
         record {
           here = λ k q at. (let within = at.within in elim (cases_lt k (length rs)) [
             | inl before ↦ (
-                let old : Stands rs k q = record { within = before; is = sym (get_or_append_left rs (r ∷ []) 0 k before) ∙ at.is } in
+                let old : StandsInList rs k q = record { within = before; is = sym (get_or_append_left rs (r ∷ []) 0 k before) ∙ at.is } in
                 let other : q ≢ r = (λ same. false≢true (sym new ∙ subst (λ p. has rs p ≡ true) same (stands_has rs k q table_apart old))) in
                 slice_get-set_other ps r q (length rs) other ∙ t.here k q old)
             | inr last ↦ (
@@ -143,24 +141,24 @@ without_of d xs ys p n m many few one moved rest = record {
   rest = λ k other before. rest k d other (omega arith);
 }
 
-module _ (rs qs : List ℕ) (p r : ℕ) (apart : AreApart rs) (there : Stands rs p r) (less : IsWithout ℕ 0 p rs qs) where
+module _ (rs qs : List ℕ) (p r : ℕ) (apart : StandOnce rs) (there : StandsInList rs p r) (less : IsWithout ℕ 0 p rs qs) where
   -- what stands in it stood there, at that place or as the last one
-  pub stood : (k q : ℕ) → Stands qs k q → (q ≢ r) × (((k ≢ p) × Stands rs k q) ⊎ ((k ≡ p) × (p + 1 < length rs) × Stands rs (length rs - 1) q))
+  pub stood : (k q : ℕ) → StandsInList qs k q → (q ≢ r) × (((k ≢ p) × StandsInList rs k q) ⊎ ((k ≡ p) × (p + 1 < length rs) × StandsInList rs (length rs - 1) q))
   stood k q at =
       let long = less.long in
       let within = at.within in
       elim (cases_eq k p) [
         | inl here ↦ (
             let more : p + 1 < length rs = omega arith in
-            let last : Stands rs (length rs - 1) q = record { within = omega arith; is = sym (less.moved more) ∙ (ap (λ j. get_or qs j 0) (sym here) ∙ at.is) } in
-            ((λ same. let two = apart (length rs - 1) p r (subst (Stands rs (length rs - 1)) same last) there in omega arith), inr (here, more, last)))
+            let last : StandsInList rs (length rs - 1) q = record { within = omega arith; is = sym (less.moved more) ∙ (ap (λ j. get_or qs j 0) (sym here) ∙ at.is) } in
+            ((λ same. let two = apart (length rs - 1) p r (subst (StandsInList rs (length rs - 1)) same last) there in omega arith), inr (here, more, last)))
         | inr other ↦ (
-            let old : Stands rs k q = record { within = omega arith; is = sym (less.rest k other (omega arith)) ∙ at.is } in
-            ((λ same. other (apart k p r (subst (Stands rs k) same old) there)), inl (other, old)))
+            let old : StandsInList rs k q = record { within = omega arith; is = sym (less.rest k other (omega arith)) ∙ at.is } in
+            ((λ same. other (apart k p r (subst (StandsInList rs k) same old) there)), inl (other, old)))
       ]
 
   -- and what stood there stands in it, at its place or in place of the router
-  pub stays : (j q : ℕ) → q ≢ r → Stands rs j q → ((j ≢ p) × (j + 1 < length rs) × Stands qs j q) ⊎ ((j ≡ length rs - 1) × (p + 1 < length rs) × Stands qs p q)
+  pub stays : (j q : ℕ) → q ≢ r → StandsInList rs j q → ((j ≢ p) × (j + 1 < length rs) × StandsInList qs j q) ⊎ ((j ≡ length rs - 1) × (p + 1 < length rs) × StandsInList qs p q)
   stays j q other at =
       let long = less.long in
       let within = at.within in
@@ -175,7 +173,7 @@ module _ (rs qs : List ℕ) (p r : ℕ) (apart : AreApart rs) (there : Stands rs
             inr (end, more, record { within = omega arith; is = less.moved more ∙ (ap (λ i. get_or rs i 0) (sym end) ∙ at.is) }))
       ]
 
-  pub apart_without : AreApart qs
+  pub apart_without : StandOnce qs
   apart_without j k q one two =
       let long = less.long in
       let first = stood j q one in
@@ -234,10 +232,10 @@ module _ (rs ps qs : List ℕ) (r : ℕ) (t : IsTableOf rs ps) (here : has rs r 
   abbrev p : ℕ
   p = place_in rs r
 
-  apart : AreApart rs
+  apart : StandOnce rs
   apart = table_apart rs ps t
 
-  there : Stands rs p r
+  there : StandsInList rs p r
   there = stands rs r here
 
   known : r < length ps
@@ -279,7 +277,7 @@ module _ (rs ps qs : List ℕ) (r : ℕ) (t : IsTableOf rs ps) (here : has rs r 
   -- another one has gone, and the last one has come to its place
   pub moved_known : p < length qs → get_or qs p 0 < length cleared
   moved_known within =
-      let at : Stands qs p (get_or qs p 0) = record { within = within; is = refl } in
+      let at : StandsInList qs p (get_or qs p 0) = record { within = within; is = refl } in
       let was = stood rs qs p r apart there less p (get_or qs p 0) at in
       let long = length-set ps r 4294967295 in
       elim (was.1) [
@@ -290,14 +288,14 @@ module _ (rs ps qs : List ℕ) (r : ℕ) (t : IsTableOf rs ps) (here : has rs r 
   pub table_moved : p < length qs → (m : ℕ) → m ≡ get_or qs p 0 → IsTableOf qs (set cleared m p)
   table_moved within m is =
       let long = less.long in
-      let last : Stands qs p m = record { within = within; is = sym is } in
+      let last : StandsInList qs p m = record { within = within; is = sym is } in
       let inside : m < length cleared = subst (λ x. x < length cleared) (sym is) (moved_known within) in
       let final : slice_get (set cleared m p) m ≡ Some p = slice_get-set_same cleared m p inside in
       let apart_now = apart_without rs qs p r apart there less in
       record {
         here = λ k q at. elim (cases_eq q m) [
           | inl same ↦ (
-              let place : k ≡ p = apart_now k p m (subst (Stands qs k) same at) last in
+              let place : k ≡ p = apart_now k p m (subst (StandsInList qs k) same at) last in
               subst (λ x. slice_get (set cleared m p) x ≡ Some k) (sym same) (final ∙ ap Some (sym place)))
           | inr other ↦ (let was = stood rs qs p r apart there less k q at in elim (was.1) [
             | inl x ↦ slice_get-set_other cleared m q p other ∙ (cleared_other q was.0 ∙ t.here k q x.1)
@@ -307,7 +305,7 @@ module _ (rs ps qs : List ℕ) (r : ℕ) (t : IsTableOf rs ps) (here : has rs r 
         placed = λ k q got. elim (cases_eq q m) [
           | inl same ↦ (
               let place : k ≡ p = same_of k p (sym got ∙ (ap (slice_get (set cleared m p)) same ∙ final)) in
-              inr (subst (λ x. Stands qs k x) (sym same) (subst (λ x. Stands qs x m) (sym place) last)))
+              inr (subst (λ x. StandsInList qs k x) (sym same) (subst (λ x. StandsInList qs x m) (sym place) last)))
           | inr other ↦ (let noted = sym (slice_get-set_other cleared m q p other) ∙ got in elim (cases_eq q r) [
             | inl same ↦ inl (same_of k 4294967295 (sym noted ∙ (ap (slice_get cleared) same ∙ cleared_one)))
             | inr apart_from ↦ elim (t.placed k q (sym (cleared_other q apart_from) ∙ noted)) [
@@ -321,81 +319,3 @@ module _ (rs ps qs : List ℕ) (r : ℕ) (t : IsTableOf rs ps) (here : has rs r 
         ];
         few = let few : length rs ≤ 4294967295 = t.few in omega arith;
       }
-
--- ---- the routers below a number for which a test holds
-
-module _ (own : ℕ → Bool) where
-  abbrev pub own_from : ℕ → ℕ → List ℕ
-  own_from a n = filter own (range_with_len a n)
-
-  range_bound : (a n k r : ℕ) → Stands (own_from a n) k r → (a ≤ r) × (r < a + n)
-  range_bound a zero k r at = let within = at.within in absurd (omega arith)
-  range_bound a (suc n) k r at =
-      elim (cases_Bool (own a)) [
-        | inl mine ↦ (let one : own_from a (suc n) ≡ a ∷ own_from (a + 1) n = rw mine refl in first (range_bound (a + 1) n) k (subst (λ rs. Stands rs k r) one at))
-        | inr other ↦ (let none : own_from a (suc n) ≡ own_from (a + 1) n = rw other refl in later (range_bound (a + 1) n) k (subst (λ rs. Stands rs k r) none at))
-      ]
-    where
-      Bound : Type 0
-      Bound = (k r : ℕ) → Stands (own_from (a + 1) n) k r → (a + 1 ≤ r) × (r < a + 1 + n)
-
-      later : Bound → (k : ℕ) → Stands (own_from (a + 1) n) k r → (a ≤ r) × (r < a + suc n)
-      later bound k at = let more = bound k r at in (let low = more.0 in omega arith, let high = more.1 in omega arith)
-
-      first : Bound → (k : ℕ) → Stands (a ∷ own_from (a + 1) n) k r → (a ≤ r) × (r < a + suc n)
-      first bound zero at = let is : a ≡ r = at.is in (omega arith, omega arith)
-      first bound (suc k) at = later bound k (record { within = (let within = at.within in omega arith); is = at.is })
-
-  -- a number past them is none of them
-  pub fresh : (n : ℕ) → has (own_from 0 n) n ≡ false
-  fresh n = stands_not (own_from 0 n) n (λ k at. let bound = (range_bound 0 n k n at).1 in omega arith)
-
-  -- one number more
-  pub next_own : (n : ℕ) → own_from 0 (n + 1) ≡ (if own n then own_from 0 n ++ n ∷ [] else own_from 0 n)
-  next_own n =
-      let more : n + 1 ≡ suc n = omega arith in
-      let last : 0 + n ≡ n = omega arith in
-      let parts : own_from 0 (n + 1) ≡ own_from 0 n ++ filter own (n ∷ []) =
-      ap (own_from 0) more ∙ (ap (filter own) (range_push n 0 ∙ ap (λ m. range_with_len 0 n ++ m ∷ []) last) ∙ filter-append own (range_with_len 0 n) (n ∷ [])) in
-      elim (cases_Bool (own n)) [
-        | inl mine ↦ rw mine (rw mine at parts)
-        | inr other ↦ rw other ((rw other at parts) ∙ append-nil (own_from 0 n))
-      ]
-
-  -- each of them passes the test, and each that passes it is one of them
-  passing : (a n k r : ℕ) → Stands (own_from a n) k r → own r ≡ true
-  passing a zero k r at = let within = at.within in absurd (omega arith)
-  passing a (suc n) k r at =
-      elim (cases_Bool (own a)) [
-        | inl mine ↦ (let one : own_from a (suc n) ≡ a ∷ own_from (a + 1) n = rw mine refl in first mine (passing (a + 1) n) k (subst (λ rs. Stands rs k r) one at))
-        | inr other ↦ (let none : own_from a (suc n) ≡ own_from (a + 1) n = rw other refl in passing (a + 1) n k r (subst (λ rs. Stands rs k r) none at))
-      ]
-    where
-      first : own a ≡ true → ((k r : ℕ) → Stands (own_from (a + 1) n) k r → own r ≡ true) → (k : ℕ) → Stands (a ∷ own_from (a + 1) n) k r → own r ≡ true
-      first mine later zero at = let is : a ≡ r = at.is in ap own (sym is) ∙ mine
-      first mine later (suc k) at = later k r (record { within = (let within = at.within in omega arith); is = at.is })
-
-  found : (a n r : ℕ) → a ≤ r → r < a + n → own r ≡ true → (k : ℕ) × Stands (own_from a n) k r
-  found a zero r low high mine = absurd (omega arith)
-  found a (suc n) r low high mine =
-      elim (cases_eq r a) [
-        | inl here ↦ (let one : own_from a (suc n) ≡ a ∷ own_from (a + 1) n = (let yours : own a ≡ true = ap own (sym here) ∙ mine in rw yours refl) in
-            (0, subst (λ rs. Stands rs 0 r) (sym one) (record { within = omega arith; is = sym here })))
-        | inr apart ↦ (let later = found (a + 1) n r (omega arith) (omega arith) mine in elim (cases_Bool (own a)) [
-          | inl yours ↦ (let one : own_from a (suc n) ≡ a ∷ own_from (a + 1) n = rw yours refl in
-              (suc later.0, subst (λ rs. Stands rs (suc later.0) r) (sym one) (record { within = (let within = later.1.within in omega arith); is = later.1.is })))
-          | inr other ↦ (let none : own_from a (suc n) ≡ own_from (a + 1) n = rw other refl in (later.0, subst (λ rs. Stands rs later.0 r) (sym none) later.1))
-        ])
-      ]
-
-  pub has_own : (n r : ℕ) → has (own_from 0 n) r ≡ (nat_lt r n && own r)
-  has_own n r =
-      elim (cases_Bool (nat_lt r n)) [
-        | inl within ↦ elim (cases_Bool (own r)) [
-          | inl mine ↦ (let at = found 0 n r (omega arith) (let low = ltb-true r n within in omega arith) mine in
-              has_at (own_from 0 n) at.0 r at.1 ∙ sym (ap (λ b. b && own r) within ∙ mine))
-          | inr other ↦ stands_not (own_from 0 n) r (λ k at. false≢true (sym other ∙ passing 0 n k r at)) ∙ sym (ap (λ b. b && own r) within ∙ other)
-        ]
-        | inr past ↦ stands_not (own_from 0 n) r (λ k at. (let bound = (range_bound 0 n k r at).1 in let high = ltb-false r n past in omega arith))
-            ∙ sym (ap (λ b. b && own r) past)
-      ]

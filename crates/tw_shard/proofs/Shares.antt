@@ -10,7 +10,7 @@ use Rattle.tw_event.specs.Order.{event_before, event_same}
 use Rattle.tw_model.specs.Case.{Case, simulation}
 use Rattle.tw_model.specs.Effect.{effect, suits}
 use Rattle.tw_model.specs.State.{State}
-use Rattle.tw_shard.specs.Shard.{IsWhole, Shard, core, no_timeline, owns, place, routers, timeline}
+use Rattle.tw_shard.specs.Shard.{IsSoundShard, Shard, no_timeline, owns, place, routers, shard_core, timeline}
 use Rattle.tw_shard.proofs.Rosters.{all_standing, has_at, listed_at, same_place}
 use Rattle.tw_shard.specs.Timeline.{Timeline, history, known, last_change_at, router_of}
 use Rattle.tw_sim.specs.declared.machine.Signed.{Signed}
@@ -34,7 +34,7 @@ all_own s = all_standing (λ r. owns s r ≡ true) s.routers (has_at s.routers)
 abbrev pub changed : Shard → ℕ → Timeline → List Event → List (Signed Event) → List Event → Shard
 changed s r t pending outgoing held = record s { timelines = set s.timelines (place s r) t; pending = pending; outgoing = outgoing; held = held }
 
-module _ (s : Shard) (r : ℕ) (t : Timeline) (pending : List Event) (outgoing : List (Signed Event)) (held : List Event) (whole : IsWhole s) (mine : owns s r ≡ true) where
+module _ (s : Shard) (r : ℕ) (t : Timeline) (pending : List Event) (outgoing : List (Signed Event)) (held : List Event) (whole : IsSoundShard s) (mine : owns s r ≡ true) where
   abbrev after : Shard
   after = changed s r t pending outgoing held
 
@@ -66,9 +66,9 @@ module _ (s : Shard) (r : ℕ) (t : Timeline) (pending : List Event) (outgoing :
       ])
 
   -- the shard stays whole
-  pub whole_after : t.net ≡ s.case.net → t.node ≡ r → t.done ≤ s.bound → t.case ≡ s.case → t.keeps ≡ s.keeps → AllByRecursion (λ e. suits s.case.net e.dst e ≡ true) pending
-      → IsRising event_before event_same held → IsWhole after
-  whole_after net node done case keeps suit rising = record {
+  pub whole_after : t.net ≡ s.case.net → t.node ≡ r → t.done ≤ s.bound → t.case ≡ s.case → t.retains ≡ s.retains → AllByRecursion (λ e. suits s.case.net e.dst e ≡ true) pending
+      → IsRising event_before event_same held → IsSoundShard after
+  whole_after net node done case retains suit rising = record {
     case = whole.case;
     worker = whole.worker;
     apart = whole.apart;
@@ -80,7 +80,7 @@ module _ (s : Shard) (r : ℕ) (t : Timeline) (pending : List Event) (outgoing :
       node = each_timeline (λ p t. t.node ≡ p) node (λ p h. (whole.routers p h).node) q ours;
       done = each_timeline (λ p t. t.done ≤ s.bound) done (λ p h. (whole.routers p h).done) q ours;
       case = each_timeline (λ p t. t.case ≡ s.case) case (λ p h. (whole.routers p h).case) q ours;
-      keeps = each_timeline (λ p t. t.keeps ≡ s.keeps) keeps (λ p h. (whole.routers p h).keeps) q ours;
+      retains = each_timeline (λ p t. t.retains ≡ s.retains) retains (λ p h. (whole.routers p h).retains) q ours;
     };
     pending = suit;
     held = rising;
@@ -95,7 +95,7 @@ put_same f r a is =
     ])
 
 -- what is read of each router stays, where it is read of this one as before
-pub read_same : {A : Type 0} (s : Shard) (r : ℕ) (t : Timeline) (pending : List Event) (outgoing : List (Signed Event)) (held : List Event) → IsWhole s → owns s r ≡ true
+pub read_same : {A : Type 0} (s : Shard) (r : ℕ) (t : Timeline) (pending : List Event) (outgoing : List (Signed Event)) (held : List Event) → IsSoundShard s → owns s r ≡ true
     → (read : Timeline → A) (none : A) → read t ≡ read (timeline s r)
     → ◌≡◌ {A = ℕ → A} (λ q. if owns (changed s r t pending outgoing held) q then read (timeline (changed s r t pending outgoing held) q) else none)
     (λ q. if owns s q then read (timeline s q) else none)
@@ -103,11 +103,11 @@ read_same s r t pending outgoing held whole mine read none same =
     read_put s r t pending outgoing held whole mine read none ∙ put_same (λ q. if owns s q then read (timeline s q) else none) r (read t) (rw mine (sym same))
 
 -- one of its routers, as its history leaves it
-pub router_known : (s : Shard) (r : ℕ) → IsWhole s → owns s r ≡ true
-    → router_of (timeline s r) ≡ record { net = s.case.net; node = r; state = state (simulation s.case) r ((core 0 s).history r) }
+pub router_known : (s : Shard) (r : ℕ) → IsSoundShard s → owns s r ≡ true
+    → router_of (timeline s r) ≡ record { net = s.case.net; node = r; state = state (simulation s.case) r ((shard_core 0 s).history r) }
 router_known s r whole mine =
     let at = whole.routers r mine in
-    let here : (core 0 s).history r ≡ history (timeline s r) = rw mine refl in
+    let here : (shard_core 0 s).history r ≡ history (timeline s r) = rw mine refl in
     λ i. record {
       net = at.net i;
       node = at.node i;
@@ -115,9 +115,9 @@ router_known s r whole mine =
     }
 
 -- and when its path changed last
-pub change_known : (s : Shard) (r : ℕ) → IsWhole s → owns s r ≡ true
-    → last_change_at (timeline s r).net (timeline s r).node (history (timeline s r)) ≡ last_change_at s.case.net r ((core 0 s).history r)
+pub change_known : (s : Shard) (r : ℕ) → IsSoundShard s → owns s r ≡ true
+    → last_change_at (timeline s r).net (timeline s r).node (history (timeline s r)) ≡ last_change_at s.case.net r ((shard_core 0 s).history r)
 change_known s r whole mine =
     let at = whole.routers r mine in
-    let here : (core 0 s).history r ≡ history (timeline s r) = rw mine refl in
+    let here : (shard_core 0 s).history r ≡ history (timeline s r) = rw mine refl in
     λ i. last_change_at (at.net i) (at.node i) (sym here i)

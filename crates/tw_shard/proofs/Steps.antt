@@ -13,7 +13,7 @@ use Rattle.tw_event.specs.declared.event.Event.{Event}
 use Rattle.tw_handlers.specs.Calls.{is_full_at}
 use Rattle.tw_model.specs.Case.{simulation}
 use Rattle.tw_model.specs.Effect.{body_suits, effect, is_full, suits}
-use Rattle.tw_shard.specs.Shard.{IsNext, IsUndone, IsWhole, Shard, core, handled_at, handling, may_handle, owns, timeline, undone_at, undoing}
+use Rattle.tw_shard.specs.Shard.{HandlesNext, IsSoundShard, IsUndone, Shard, handled_at, handling, may_handle, owns, shard_core, timeline, undoing, undone_at}
 use Rattle.tw_shard.specs.Timeline.{Timeline, history, known, router_of, sends_after, signed}
 use Rattle.tw_shard.proofs.Shares.{known_state, read_put, read_same}
 use Rattle.tw_sim.specs.Simulation.{state}
@@ -68,7 +68,7 @@ is_ahead [] (x ∷ past) done e h all late =
     omega arith
 is_ahead (x ∷ ahead) past done e h all late = omega arith
 
-module _ (s : Shard) (r : ℕ) (whole : IsWhole s) (mine : owns s r ≡ true) where
+module _ (s : Shard) (r : ℕ) (whole : IsSoundShard s) (mine : owns s r ≡ true) where
   -- what the timeline tells as sent is what the machine sends
   pub same_sends : (e : Event) (older : List Event) → e.dst ≡ r
       → sends_after (timeline s r) older e ≡ (effect s.case.net e.dst (state (simulation s.case) r older) e).sends
@@ -79,7 +79,7 @@ module _ (s : Shard) (r : ℕ) (whole : IsWhole s) (mine : owns s r ≡ true) wh
       λ i. (effect (own.net i) ((own.node ∙ sym home) i) (knows i) e).sends
 
   pub core_undone : (stop : ℕ) (e : Event) (older : List Event) → e.dst ≡ r
-      → core stop (undone_at s r e older) ≡ after_undoing (simulation s.case) (core stop s) r e (older ++ (timeline s r).past)
+      → shard_core stop (undone_at s r e older) ≡ after_undoing (simulation s.case) (shard_core stop s) r e (older ++ (timeline s r).past)
   core_undone stop e older home =
       let t : Timeline = record (timeline s r) { ahead = older } in
       let next = undone_at s r e older in
@@ -102,11 +102,11 @@ module _ (s : Shard) (r : ℕ) (whole : IsWhole s) (mine : owns s r ≡ true) wh
       }
 
   pub core_handled : (stop : ℕ) (e : Event) → e.dst ≡ r
-      → core stop (handled_at s r e) ≡ after_handling (simulation s.case) (core stop s) r e
+      → shard_core stop (handled_at s r e) ≡ after_handling (simulation s.case) (shard_core stop s) r e
   core_handled stop e home =
       let t : Timeline = record (timeline s r) { ahead = e ∷ (timeline s r).ahead } in
       let next = handled_at s r e in
-      let here : (core stop s).history r ≡ history (timeline s r) = rw mine refl in
+      let here : (shard_core stop s).history r ≡ history (timeline s r) = rw mine refl in
       let histories = read_put s r t next.pending next.outgoing next.held whole mine history [] in
       let dones = read_same s r t next.pending next.outgoing next.held whole mine (λ (t : Timeline). t.done) 0 refl in
       let pasts = read_same s r t next.pending next.outgoing next.held whole mine (λ (t : Timeline). length t.past) 0 refl in
@@ -114,7 +114,7 @@ module _ (s : Shard) (r : ℕ) (whole : IsWhole s) (mine : owns s r ≡ true) wh
       let sends =
       same_sends e (history (timeline s r)) home ∙ ap (λ h. (effect s.case.net e.dst (state (simulation s.case) r h) e).sends) (sym here) in
       λ i. record {
-        history = (histories ∙ ap (λ h. put (core stop s).history r (e ∷ h)) (sym here)) i;
+        history = (histories ∙ ap (λ h. put (shard_core stop s).history r (e ∷ h)) (sym here)) i;
         pending = next.pending;
         kept = s.kept;
         flight = s.outgoing ++ map (signed true) (to_send (simulation s.case) (sends i) s.held);
@@ -128,23 +128,23 @@ module _ (s : Shard) (r : ℕ) (whole : IsWhole s) (mine : owns s r ≡ true) wh
       }
 
   -- an undo that is not refused is the machine's
-  pub undone : (stop : ℕ) (t : Shard) → IsUndone r s t → told_ok ≡ result_and (undoing stop s r) told_ok → undoing stop s r ≡ Ok (core stop t)
+  pub undone : (stop : ℕ) (t : Shard) → IsUndone r s t → told_ok ≡ result_and (undoing stop s r) told_ok → undoing stop s r ≡ Ok (shard_core stop t)
   undone stop t h told =
       let m = simulation s.case in
       let e = h.0 in
       let older = h.1 ++ (timeline s r).past in
       let newest : history (timeline s r) ≡ e ∷ older = ap (λ ahead. ahead ++ (timeline s r).past) h.2 in
-      let here : (core stop s).history r ≡ history (timeline s r) = rw mine refl in
-      let same : undoing stop s r ≡ undo m (core stop s) r (e ∷ older) =
-      ap (λ b. if b then undo m (core stop s) r ((core stop s).history r) else Err NotMine) mine ∙ ap (undo m (core stop s) r) (here ∙ newest) in
-      let early = nat_lt e.time ((core stop s).done r) || nat_lt e.time s.bound in
-      let ok : undo m (core stop s) r (e ∷ older) ≡ Ok (after_undoing m (core stop s) r e older) =
+      let here : (shard_core stop s).history r ≡ history (timeline s r) = rw mine refl in
+      let same : undoing stop s r ≡ undo m (shard_core stop s) r (e ∷ older) =
+      ap (λ b. if b then undo m (shard_core stop s) r ((shard_core stop s).history r) else Err NotMine) mine ∙ ap (undo m (shard_core stop s) r) (here ∙ newest) in
+      let early = nat_lt e.time ((shard_core stop s).done r) || nat_lt e.time s.bound in
+      let ok : undo m (shard_core stop s) r (e ∷ older) ≡ Ok (after_undoing m (shard_core stop s) r e older) =
       elim (cases_Bool early) [
-        | inl refused ↦ absurd (not_told (undo m (core stop s) r (e ∷ older)) Committed (ap (λ b. if b then Err Committed else Ok (after_undoing m (core stop s) r e older)) refused)
+        | inl refused ↦ absurd (not_told (undo m (shard_core stop s) r (e ∷ older)) Committed (ap (λ b. if b then Err Committed else Ok (after_undoing m (shard_core stop s) r e older)) refused)
             (told ∙ ap (λ x. result_and x told_ok) same))
         | inr late ↦ rw late refl
       ] in
-      same ∙ (ok ∙ ap (λ c. Ok c) (sym (core_undone stop e h.1 h.3) ∙ ap (core stop) (sym h.4)))
+      same ∙ (ok ∙ ap (λ c. Ok c) (sym (core_undone stop e h.1 h.3) ∙ ap (shard_core stop) (sym h.4)))
 
   -- what is told of an undo of the newest event
   undo_told : (stop : ℕ) (e : Event) → slice_get (history (timeline s r)) 0 ≡ Some e
@@ -153,12 +153,12 @@ module _ (s : Shard) (r : ℕ) (whole : IsWhole s) (mine : owns s r ≡ true) wh
       let m = simulation s.case in
       let older = drop 1 (history (timeline s r)) in
       let newest : history (timeline s r) ≡ e ∷ older = first_is (history (timeline s r)) e first in
-      let here : (core stop s).history r ≡ history (timeline s r) = rw mine refl in
-      let done : (core stop s).done r ≡ (timeline s r).done = rw mine refl in
-      let same : undoing stop s r ≡ undo m (core stop s) r (e ∷ older) =
-      ap (λ b. if b then undo m (core stop s) r ((core stop s).history r) else Err NotMine) mine ∙ ap (undo m (core stop s) r) (here ∙ newest) in
+      let here : (shard_core stop s).history r ≡ history (timeline s r) = rw mine refl in
+      let done : (shard_core stop s).done r ≡ (timeline s r).done = rw mine refl in
+      let same : undoing stop s r ≡ undo m (shard_core stop s) r (e ∷ older) =
+      ap (λ b. if b then undo m (shard_core stop s) r ((shard_core stop s).history r) else Err NotMine) mine ∙ ap (undo m (shard_core stop s) r) (here ∙ newest) in
       ap (λ x. result_and x told_ok) same
-      ∙ (told_late (nat_lt e.time ((core stop s).done r) || nat_lt e.time s.bound) (after_undoing m (core stop s) r e older)
+      ∙ (told_late (nat_lt e.time ((shard_core stop s).done r) || nat_lt e.time s.bound) (after_undoing m (shard_core stop s) r e older)
       ∙ ap (λ d. if nat_lt e.time d || nat_lt e.time s.bound then Err Committed else told_ok) done)
 
   -- an undo of an event before the bound is refused
@@ -181,16 +181,16 @@ module _ (s : Shard) (r : ℕ) (whole : IsWhole s) (mine : owns s r ≡ true) wh
   own_event e h = eqb-true e.dst r (and_parts (e.dst == r) (body_suits s.case.net r e e.body) h).0
 
   -- as many events are not committed as it can undo
-  pub ahead_is : (stop : ℕ) → count_ahead (core stop s) r ≡ length (timeline s r).ahead
+  pub ahead_is : (stop : ℕ) → count_ahead (shard_core stop s) r ≡ length (timeline s r).ahead
   ahead_is stop =
       let t = timeline s r in
-      let here : (core stop s).history r ≡ history t = rw mine refl in
-      let past : (core stop s).past r ≡ length t.past = rw mine refl in
+      let here : (shard_core stop s).history r ≡ history t = rw mine refl in
+      let past : (shard_core stop s).past r ≡ length t.past = rw mine refl in
       let long = ap length here ∙ length-append t.ahead t.past in
       omega arith
 
   -- and it has the room of its timeline
-  pub room_is : (stop : ℕ) → (core stop s).room r ≡ (timeline s r).room
+  pub room_is : (stop : ℕ) → (shard_core stop s).room r ≡ (timeline s r).room
   room_is stop = rw mine refl
 
   -- what handling e leads to, where its timeline tells nothing against it
@@ -198,24 +198,24 @@ module _ (s : Shard) (r : ℕ) (whole : IsWhole s) (mine : owns s r ≡ true) wh
   rest_of stop e =
       if (simulation s.case).full (state (simulation s.case) r (history (timeline s r))) e
       then Err CounterFull
-      else Ok (after_handling (simulation s.case) (core stop s) r e)
+      else Ok (after_handling (simulation s.case) (shard_core stop s) r e)
 
   -- what the first pending event leads to, where it is before the stop
-  opened : (stop : ℕ) (e : Event) → first_pending (simulation s.case) (core stop s) r ≡ Some e → e.time < stop
+  opened : (stop : ℕ) (e : Event) → first_pending (simulation s.case) (shard_core stop s) r ≡ Some e → e.time < stop
       → handling stop s r ≡ checked (is_newest (simulation s.case) e (history (timeline s r))) (nat_lt (length (timeline s r).ahead) (timeline s r).room) (rest_of stop e)
   opened stop e first soon =
       let m = simulation s.case in
-      let here : (core stop s).history r ≡ history (timeline s r) = rw mine refl in
-      let has_room = nat_lt (count_ahead (core stop s) r) ((core stop s).room r) in
-      ap (λ b. if b then handle m (core stop s) r (first_pending m (core stop s) r) else Err NotMine) mine
-      ∙ (ap (handle m (core stop s) r) first
-      ∙ (ap (λ b. if b then checked (is_newest m e ((core stop s).history r)) has_room (if m.full (state m r ((core stop s).history r)) e then Err CounterFull
-      else Ok (after_handling m (core stop s) r e)) else Err Nothing) (lt-ltb e.time stop soon)
-      ∙ (ap (λ h. checked (is_newest m e h) has_room (if m.full (state m r h) e then Err CounterFull else Ok (after_handling m (core stop s) r e))) here
+      let here : (shard_core stop s).history r ≡ history (timeline s r) = rw mine refl in
+      let has_room = nat_lt (count_ahead (shard_core stop s) r) ((shard_core stop s).room r) in
+      ap (λ b. if b then handle m (shard_core stop s) r (first_pending m (shard_core stop s) r) else Err NotMine) mine
+      ∙ (ap (handle m (shard_core stop s) r) first
+      ∙ (ap (λ b. if b then checked (is_newest m e ((shard_core stop s).history r)) has_room (if m.full (state m r ((shard_core stop s).history r)) e then Err CounterFull
+      else Ok (after_handling m (shard_core stop s) r e)) else Err Nothing) (lt-ltb e.time stop soon)
+      ∙ (ap (λ h. checked (is_newest m e h) has_room (if m.full (state m r h) e then Err CounterFull else Ok (after_handling m (shard_core stop s) r e))) here
       ∙ ap₂ (λ n k. checked (is_newest m e (history (timeline s r))) (nat_lt n k) (rest_of stop e)) (ahead_is stop) (room_is stop))))
 
   -- where its timeline tells why not, that is why
-  pub is_held_off : (stop : ℕ) (e : Event) → first_pending (simulation s.case) (core stop s) r ≡ Some e → e.time < stop
+  pub is_held_off : (stop : ℕ) (e : Event) → first_pending (simulation s.case) (shard_core stop s) r ≡ Some e → e.time < stop
       → (f : Refusal) → may_handle s r e ≡ Err f → handling stop s r ≡ Err f
   is_held_off stop e first soon f h =
       opened stop e first soon
@@ -230,21 +230,21 @@ module _ (s : Shard) (r : ℕ) (whole : IsWhole s) (mine : owns s r ≡ true) wh
       (λ i. known (own.net i) (own.node i) h) ∙ known_state s.case r h in
       λ i. is_full (own.net i) ((own.node ∙ sym home) i) (knows i) e
 
-  undoubled : (stop : ℕ) (e : Event) → IsNext stop s r e
-      → handling stop s r ≡ (if is_full_at (router_of (timeline s r)) e then Err CounterFull else Ok (after_handling (simulation s.case) (core stop s) r e))
+  undoubled : (stop : ℕ) (e : Event) → HandlesNext stop s r e
+      → handling stop s r ≡ (if is_full_at (router_of (timeline s r)) e then Err CounterFull else Ok (after_handling (simulation s.case) (shard_core stop s) r e))
   undoubled stop e next =
       let m = simulation s.case in
       opened stop e next.first next.soon
       ∙ (checked-ok (is_newest m e (history (timeline s r))) (nat_lt (length (timeline s r).ahead) (timeline s r).room) (rest_of stop e) next.free
-      ∙ ap (λ b. if b then Err CounterFull else Ok (after_handling m (core stop s) r e)) (sym (same_full e (own_event e next.suit))))
+      ∙ ap (λ b. if b then Err CounterFull else Ok (after_handling m (shard_core stop s) r e)) (sym (same_full e (own_event e next.suit))))
 
-  pub is_stuck : (stop : ℕ) (e : Event) → IsNext stop s r e → is_full_at (router_of (timeline s r)) e ≡ true → handling stop s r ≡ Err CounterFull
+  pub is_stuck : (stop : ℕ) (e : Event) → HandlesNext stop s r e → is_full_at (router_of (timeline s r)) e ≡ true → handling stop s r ≡ Err CounterFull
   is_stuck stop e next full =
-      undoubled stop e next ∙ ap (λ b. if b then Err CounterFull else Ok (after_handling (simulation s.case) (core stop s) r e)) full
+      undoubled stop e next ∙ ap (λ b. if b then Err CounterFull else Ok (after_handling (simulation s.case) (shard_core stop s) r e)) full
 
-  pub goes_on : (stop : ℕ) (e : Event) → IsNext stop s r e → (is_full_at (router_of (timeline s r)) e ≡ true → ⊥)
-      → handling stop s r ≡ Ok (core stop (handled_at s r e))
+  pub goes_on : (stop : ℕ) (e : Event) → HandlesNext stop s r e → (is_full_at (router_of (timeline s r)) e ≡ true → ⊥)
+      → handling stop s r ≡ Ok (shard_core stop (handled_at s r e))
   goes_on stop e next room =
       undoubled stop e next
-      ∙ (ap (λ b. if b then Err CounterFull else Ok (after_handling (simulation s.case) (core stop s) r e)) (false_from_ne_true (is_full_at (router_of (timeline s r)) e) room)
+      ∙ (ap (λ b. if b then Err CounterFull else Ok (after_handling (simulation s.case) (shard_core stop s) r e)) (false_from_ne_true (is_full_at (router_of (timeline s r)) e) room)
       ∙ ap (λ c. Ok c) (sym (core_handled stop e (own_event e next.suit))))

@@ -12,7 +12,7 @@ use Rattle.tw_shard.specs.declared.rejection.Reach.{Reach}
 use Rattle.tw_shard.specs.declared.rejection.Reach.TheVariants.{From, Later}
 use Rattle.tw_shard.specs.declared.rejection.Rejection.{Rejection}
 use Rattle.tw_shard.specs.declared.rejection.Rejection.TheVariants.{NotMine, Late, Foreign}
-use Rattle.tw_shard.specs.Shard.{Shard, core, owns}
+use Rattle.tw_shard.specs.Shard.{Shard, owns, shard_core}
 use Rattle.tw_sim.specs.declared.machine.Signed.{Signed}
 
 -- whether an event may come to a shard, or why not
@@ -25,7 +25,7 @@ refusing s e =
 
 -- a message comes to a shard: the machine of its routers afterwards, or why it is refused
 abbrev pub receiving : ℕ → Shard → Signed Event → Result (Core Event) Rejection
-receiving stop s x = result_and (refusing s x.event) (Ok (after_arrival (simulation s.case) (core stop s) x))
+receiving stop s x = result_and (refusing s x.event) (Ok (after_arrival (simulation s.case) (shard_core stop s) x))
 
 -- whether an event that was handled, the last one, is undone for the first one
 abbrev pub rolls : Reach → Event → Event → Bool

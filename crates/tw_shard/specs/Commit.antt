@@ -6,7 +6,7 @@ use Rattle.tw_core.specs.Machine.{Core}
 use Rattle.tw_core.specs.Steps.{with_commit}
 use Rattle.tw_event.specs.declared.event.Event.{Event}
 use Rattle.tw_model.specs.Case.{simulation}
-use Rattle.tw_shard.specs.Shard.{Shard, at_own, core, timeline, with_timeline}
+use Rattle.tw_shard.specs.Shard.{Shard, at_own, shard_core, timeline, with_timeline}
 use Rattle.tw_shard.specs.Timeline.{Timeline}
 
 -- how many events are left of a list, which has the newest first, once the oldest are gone as far as each is before this time
@@ -39,4 +39,4 @@ committed_at s r = with_timeline s r (committed_to s.bound (timeline s r))
 
 -- the events of router r before the bound are committed
 abbrev pub committing : ℕ → Shard → ℕ → Result (Core Event) Refusal
-committing stop s r = at_own s r (Ok (with_commit (simulation s.case) (core stop s) r))
+committing stop s r = at_own s r (Ok (with_commit (simulation s.case) (shard_core stop s) r))

@@ -13,7 +13,7 @@ use Rattle.tw_sim.specs.Seq.{rest}
 
 -- router r of a case that has handled its events of the one-thread run before a time: all are committed to that time
 abbrev pub timeline_at : Case → Bool → ℕ → ℕ → Timeline
-timeline_at case keeps time r = record {
+timeline_at case retains time r = record {
   net = case.net;
   node = r;
   ahead = [];
@@ -21,20 +21,20 @@ timeline_at case keeps time r = record {
   done = time;
   room = OPENING_ROOM;
   case = case;
-  keeps = keeps;
+  retains = retains;
 }
 
 -- the events for the routers of worker k that wait once the one-thread run has handled all before a time, by the worker of each router
 abbrev pub left_for : Case → (ℕ → ℕ) → ℕ → ℕ → List Event
 left_for case who time k = filter (λ e. who e.dst == k) (rest (simulation case) time)
 
--- worker k's shard where all workers stand at a time of the run, by the worker of each router; its routers keep their committed events, or
+-- worker k's shard where all workers stand at a time of the run, by the worker of each router; its routers retain their committed events, or
 -- let them go, and it takes back what undone events have sent as this says
-pub record IsShardAt (case : Case) (who : ℕ → ℕ) (time k : ℕ) (keeps : Bool) (cancel : Cancel) (s : Shard) : Type 0 where
+pub record IsShardAt (case : Case) (who : ℕ → ℕ) (time k : ℕ) (retains : Bool) (cancel : Cancel) (s : Shard) : Type 0 where
   -- it has the worker's routers of the case
   pub owns_are : (r : ℕ) → owns s r ≡ (nat_lt r case.net.nodes && (who r == k))
   -- which have handled their events of the run before that time
-  pub routers : (r : ℕ) → owns s r ≡ true → timeline s r ≡ timeline_at case keeps time r
+  pub routers : (r : ℕ) → owns s r ≡ true → timeline s r ≡ timeline_at case retains time r
   -- and the events that the run leaves for them wait
   pub pending : s.pending ≡ left_for case who time k
   -- nothing is kept, on its way or held
@@ -44,15 +44,15 @@ pub record IsShardAt (case : Case) (who : ℕ → ℕ) (time k : ℕ) (keeps : B
   pub bound : s.bound ≡ time
   pub case_is : s.case ≡ case
   pub worker : s.worker ≡ k
-  pub keeps_are : s.keeps ≡ keeps
+  pub retains_are : s.retains ≡ retains
   pub cancel_is : s.cancel ≡ cancel
 
 -- a router, and what is told of its events, are those of a timeline
 pub record IsRouterOf (t : Timeline) (x : RouterAt) : Type 0 where
   -- it knows what its history leaves it
   pub router : x.router ≡ router_of t
-  -- where it keeps its events, these are told, the oldest first
-  pub events : t.keeps ≡ true → x.events.items ≡ reverse (history t)
+  -- where it retains its events, these are told, the oldest first
+  pub events : t.retains ≡ true → x.events.items ≡ reverse (history t)
   -- the newest of them, if there is one
   pub newest : x.newest ≡ slice_get (history t) 0
   -- and the time of the last one that changed its path

@@ -2,7 +2,7 @@
 use Rattle.std.specs.Prelude.{ℕ, ◌≡◌, ◌≤◌, true}
 use Rattle.std.specs.List.{AllByRecursion}
 use Rattle.tw_shard.specs.declared.shard.Shard.TheInside.{Inside}
-use Rattle.tw_shard.specs.Shard.{IsWhole, Shard, owns, timeline}
+use Rattle.tw_shard.specs.Shard.{IsSoundShard, Shard, owns, timeline}
 use Rattle.tw_shard.specs.Timeline.{history}
 
 -- the shard that the fields stand for
@@ -18,7 +18,7 @@ shard_of a = record {
   outgoing = a.outgoing.items;
   held = a.held.events;
   bound = a.bound;
-  keeps = a.keeps;
+  retains = a.retains;
   cancel = a.cancel;
 }
 
@@ -28,7 +28,7 @@ HasHandledTo time s = (r : ℕ) → owns s r ≡ true → AllByRecursion (λ e. 
 
 -- it is whole, and its routers, and those for which something waits, are of the case; and they have handled nothing after the latest time
 pub record IsShard (a : Inside) : Type 0 where
-  pub whole : IsWhole (shard_of a)
+  pub whole : IsSoundShard (shard_of a)
   pub roster : a.roster.count ≡ a.case.now.net.nodes
   pub pending : a.pending.routers ≡ a.case.now.net.nodes
   pub kept : a.kept.routers ≡ a.case.now.net.nodes

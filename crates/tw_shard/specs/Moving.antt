@@ -6,16 +6,16 @@ use Rattle.tw_ordered.specs.Queue.{for_others, for_router}
 use Rattle.tw_shard.specs.Shard.{Shard, owns, timeline}
 use Rattle.tw_sim.specs.Ordered.{insert_all}
 
--- the later shard has the same case, is the same worker's, keeps as much, and takes back what undone events have sent at the same time
+-- the later shard has the same case, is the same worker's, retains as much, and takes back what undone events have sent at the same time
 pub record HasSameTerms (s t : Shard) : Type 0 where
   pub case : t.case ≡ s.case
   pub worker : t.worker ≡ s.worker
   pub workers : t.workers ≡ s.workers
-  pub keeps : t.keeps ≡ s.keeps
+  pub retains : t.retains ≡ s.retains
   pub cancel : t.cancel ≡ s.cancel
 
--- router r has left s, which is t now: what waits for it and what is held for it is gone, and all else stays
-pub record HasLeft (r : ℕ) (s t : Shard) : Type 0 where
+-- router r has moved out of s, which is t now: what waits for it and what is held for it is gone, and all else stays
+pub record HasMovedOut (r : ℕ) (s t : Shard) : Type 0 where
   pub routers : (q : ℕ) → owns t q ≡ (owns s q && not (q == r))
   pub timelines : (q : ℕ) → owns t q ≡ true → timeline t q ≡ timeline s q
   pub pending : t.pending ≡ for_others r s.pending
@@ -25,8 +25,8 @@ pub record HasLeft (r : ℕ) (s t : Shard) : Type 0 where
   pub bound : t.bound ≡ s.bound
   pub terms : HasSameTerms s t
 
--- router r has come from s to t, which is u now, with its timeline, what waits for it and what is held for it, and all else stays
-pub record HasCome (r : ℕ) (s t u : Shard) : Type 0 where
+-- router r has moved from s into t, which is u now, with its timeline, what waits for it and what is held for it, and all else stays
+pub record HasMovedIn (r : ℕ) (s t u : Shard) : Type 0 where
   pub routers : (q : ℕ) → owns u q ≡ (owns t q || (q == r))
   pub moved : timeline u r ≡ timeline s r
   pub others : (q : ℕ) → owns t q ≡ true → timeline u q ≡ timeline t q

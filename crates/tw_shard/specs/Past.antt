@@ -11,7 +11,7 @@ pub record Past : Type 0 where
   pub case : Case
   pub node : ℕ
   -- whether each of them can still be read
-  pub keeps : Bool
+  pub retains : Bool
   -- the newest first
   pub events : List Event
   -- the bound at the latest commit
@@ -26,8 +26,8 @@ abbrev pub past_of : Inside → Past
 past_of a = record {
   case = a.case.now;
   node = a.node;
-  keeps = a.keeps;
-  events = if a.keeps then reverse a.events.items else own_run a.case.now a.node a.done;
+  retains = a.retains;
+  events = if a.retains then reverse a.events.items else own_run a.case.now a.node a.done;
   done = a.done;
 }
 

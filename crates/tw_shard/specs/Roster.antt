@@ -22,18 +22,18 @@ unfoldable pub has : List ℕ → ℕ → Bool
 has routers r = nat_lt (place_in routers r) (length routers)
 
 -- router r stands at place k of a list
-pub record Stands (routers : List ℕ) (k r : ℕ) : Type 0 where
+pub record StandsInList (routers : List ℕ) (k r : ℕ) : Type 0 where
   pub within : k < length routers
   pub is : slice_index_or routers k 0 ≡ r
 
 -- no router stands at two places
-abbrev pub AreApart : List ℕ → Type 0
-AreApart routers = (j k r : ℕ) → Stands routers j r → Stands routers k r → j ≡ k
+abbrev pub StandOnce : List ℕ → Type 0
+StandOnce routers = (j k r : ℕ) → StandsInList routers j r → StandsInList routers k r → j ≡ k
 
 -- each is a router of the case, and stands there once
 pub record IsRoster (x : Roster) : Type 0 where
-  pub known : (k r : ℕ) → Stands x.routers k r → r < x.count
-  pub apart : AreApart x.routers
+  pub known : (k r : ℕ) → StandsInList x.routers k r → r < x.count
+  pub apart : StandOnce x.routers
 
 -- the free places of the list, as far as its places have numbers
 abbrev pub room_of : Inside → ℕ
@@ -44,12 +44,12 @@ roster_of a = record { count = length a.places.items; routers = a.routers.items;
 
 -- the table has the place of each router that is here, and for the others the number that is no place
 pub record IsTableOf (routers places : List ℕ) : Type 0 where
-  pub here : (k r : ℕ) → Stands routers k r → slice_get places r ≡ Some k
-  pub placed : (k r : ℕ) → slice_get places r ≡ Some k → (k ≡ NOT_HERE) ⊎ Stands routers k r
+  pub here : (k r : ℕ) → StandsInList routers k r → slice_get places r ≡ Some k
+  pub placed : (k r : ℕ) → slice_get places r ≡ Some k → (k ≡ NOT_HERE) ⊎ StandsInList routers k r
   pub few : length routers ≤ NOT_HERE
 
-abbrev pub IsPlaced : Inside → Type 0
-IsPlaced a = IsTableOf a.routers.items a.places.items
+abbrev pub IsIndexed : Inside → Type 0
+IsIndexed a = IsTableOf a.routers.items a.places.items
 
 -- a list without the router at place p, to which the last one has come
 pub record IsWithout (A : Type 0) (d : A) (p : ℕ) (xs ys : List A) : Type 0 where

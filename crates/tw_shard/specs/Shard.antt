@@ -13,7 +13,7 @@ use Rattle.tw_model.specs.Case.{Case, IsCase, no_case, opening_events, simulatio
 use Rattle.tw_model.specs.Effect.{suits}
 use Rattle.tw_model.specs.Net.{no_net}
 use Rattle.tw_shard.specs.Past.{own_run}
-use Rattle.tw_shard.specs.Roster.{AreApart, has, place_in}
+use Rattle.tw_shard.specs.Roster.{StandOnce, has, place_in}
 use Rattle.tw_shard.specs.Timeline.{Timeline, history, opening_timeline, sends_after, signed}
 use Rattle.tw_sim.specs.declared.machine.Cancel.{Cancel}
 use Rattle.tw_sim.specs.declared.machine.Cancel.TheVariants.{Aggressive}
@@ -39,8 +39,8 @@ pub record Shard : Type 0 where
   -- what events that were undone had sent, and what was neither sent again nor taken back
   pub held : List Event
   pub bound : ℕ
-  -- whether its routers keep their committed events
-  pub keeps : Bool
+  -- whether its routers retain their committed events
+  pub retains : Bool
   -- when what an undone event has sent is taken back
   pub cancel : Cancel
 
@@ -66,7 +66,7 @@ no_timeline = record {
   done = 0;
   room = OPENING_ROOM;
   case = no_case;
-  keeps = true;
+  retains = true;
 }
 
 -- what stands where there is no shard
@@ -82,7 +82,7 @@ no_shard = record {
   outgoing = [];
   held = [];
   bound = 0;
-  keeps = true;
+  retains = true;
   cancel = Aggressive;
 }
 
@@ -91,8 +91,8 @@ abbrev pub timeline : Shard → ℕ → Timeline
 timeline s r = slice_index_or s.timelines (place s r) no_timeline
 
 -- the shard as a machine of its own routers, to this stop: what it sends stays in flight
-abbrev pub core : ℕ → Shard → Core Event
-core stop s = record {
+abbrev pub shard_core : ℕ → Shard → Core Event
+shard_core stop s = record {
   history = λ r. if owns s r then history (timeline s r) else [];
   pending = s.pending;
   kept = s.kept;
@@ -126,24 +126,24 @@ opening_core_by case who k cancel stop = record {
 abbrev pub opening_core : Case → ℕ → ℕ → Cancel → ℕ → Core Event
 opening_core case worker workers cancel stop = opening_core_by case (owner workers) worker cancel stop
 
--- worker k's shard, of so many, as it begins, by the worker of each router; its routers keep their committed events, or let them go, and
+-- worker k's shard, of so many, as it begins, by the worker of each router; its routers retain their committed events, or let them go, and
 -- it takes back what undone events have sent as this says
-pub record IsOpeningBy (case : Case) (who : ℕ → ℕ) (k workers : ℕ) (keeps : Bool) (cancel : Cancel) (s : Shard) : Type 0 where
+pub record IsOpeningBy (case : Case) (who : ℕ → ℕ) (k workers : ℕ) (retains : Bool) (cancel : Cancel) (s : Shard) : Type 0 where
   -- it is that machine
-  pub core_is : (stop : ℕ) → core stop s ≡ opening_core_by case who k cancel stop
+  pub core_is : (stop : ℕ) → shard_core stop s ≡ opening_core_by case who k cancel stop
   -- it has the worker's routers of the case, in rising order
   pub owns_are : (r : ℕ) → owns s r ≡ (nat_lt r case.net.nodes && (who r == k))
   pub order : s.routers ≡ filter (λ r. who r == k) (range_with_len 0 case.net.nodes)
   -- and they have handled nothing
-  pub routers : (r : ℕ) → owns s r ≡ true → timeline s r ≡ opening_timeline case keeps r
+  pub routers : (r : ℕ) → owns s r ≡ true → timeline s r ≡ opening_timeline case retains r
   pub case_is : s.case ≡ case
   pub worker : s.worker ≡ k
   pub count : s.workers ≡ workers
-  pub keeps_are : s.keeps ≡ keeps
+  pub retains_are : s.retains ≡ retains
 
 -- and where routers are dealt out in turn
 abbrev pub IsOpeningShard : Case → ℕ → ℕ → Bool → Cancel → Shard → Type 0
-IsOpeningShard case k workers keeps cancel s = IsOpeningBy case (owner workers) k workers keeps cancel s
+IsOpeningShard case k workers retains cancel s = IsOpeningBy case (owner workers) k workers retains cancel s
 
 -- a step at router r, refused where r is not one of its own
 abbrev pub at_own : Shard → ℕ → Result (Core Event) Refusal → Result (Core Event) Refusal
@@ -151,7 +151,7 @@ at_own s r outcome = if owns s r then outcome else Err NotMine
 
 -- router r handles its first pending event
 abbrev pub handling : ℕ → Shard → ℕ → Result (Core Event) Refusal
-handling stop s r = let m = simulation s.case in at_own s r (handle m (core stop s) r (first_pending m (core stop s) r))
+handling stop s r = let m = simulation s.case in at_own s r (handle m (shard_core stop s) r (first_pending m (shard_core stop s) r))
 
 -- the router of the least of all pending events handles it, where that one is before the stop
 abbrev pub handling_least : ℕ → Shard → Result (Core Event) Refusal
@@ -160,23 +160,23 @@ handling_least stop s =
 
 -- router r undoes the newest event of its history
 abbrev pub undoing : ℕ → Shard → ℕ → Result (Core Event) Refusal
-undoing stop s r = let m = simulation s.case in at_own s r (undo m (core stop s) r ((core stop s).history r))
+undoing stop s r = let m = simulation s.case in at_own s r (undo m (shard_core stop s) r ((shard_core stop s).history r))
 
 -- what router r holds is taken back
 abbrev pub releasing : ℕ → Shard → ℕ → Result (Core Event) Refusal
-releasing stop s r = at_own s r (Ok (with_release (simulation s.case) (core stop s) r))
+releasing stop s r = at_own s r (Ok (with_release (simulation s.case) (shard_core stop s) r))
 
 -- router r has twice the room
 abbrev pub widening : ℕ → Shard → ℕ → Result (Core Event) Refusal
-widening stop s r = at_own s r (Ok (with_room (simulation s.case) (core stop s) r))
+widening stop s r = at_own s r (Ok (with_room (simulation s.case) (shard_core stop s) r))
 
--- the later shard has the same case and the same routers, is the same worker's, keeps as much, and takes back what undone events have sent at the same time
+-- the later shard has the same case and the same routers, is the same worker's, retains as much, and takes back what undone events have sent at the same time
 pub record IsSameShare (s t : Shard) : Type 0 where
   pub case : t.case ≡ s.case
   pub worker : t.worker ≡ s.worker
   pub workers : t.workers ≡ s.workers
   pub routers : t.routers ≡ s.routers
-  pub keeps : t.keeps ≡ s.keeps
+  pub retains : t.retains ≡ s.retains
   pub cancel : t.cancel ≡ s.cancel
 
 -- with another timeline of router r
@@ -224,11 +224,11 @@ may_handle s r e =
     else Err AheadFull)
 
 -- e is what router r is to handle next, to this stop, if no counter is full
-pub record IsNext (stop : ℕ) (s : Shard) (r : ℕ) (e : Event) : Type 0 where
+pub record HandlesNext (stop : ℕ) (s : Shard) (r : ℕ) (e : Event) : Type 0 where
   -- r is one of its own
   pub own : owns s r ≡ true
   -- e is its first pending event
-  pub first : first_pending (simulation s.case) (core stop s) r ≡ Some e
+  pub first : first_pending (simulation s.case) (shard_core stop s) r ≡ Some e
   -- before the stop
   pub soon : e.time < stop
   -- it is not the event that r handled last, and r has room for it
@@ -248,18 +248,18 @@ pub record HasTimeline (s : Shard) (r : ℕ) : Type 0 where
   pub node : (timeline s r).node ≡ r
   pub done : (timeline s r).done ≤ s.bound
   pub case : (timeline s r).case ≡ s.case
-  pub keeps : (timeline s r).keeps ≡ s.keeps
+  pub retains : (timeline s r).retains ≡ s.retains
 
 -- the history of router r is in order, and before the bound it is that of the one-thread run
-pub record HasRun (s : Shard) (r : ℕ) : Type 0 where
-  pub falling : IsFalling (simulation s.case) ((core 0 s).history r)
-  pub run : below (simulation s.case) s.bound ((core 0 s).history r) ≡ own_run s.case r s.bound
+pub record FollowsRun (s : Shard) (r : ℕ) : Type 0 where
+  pub falling : IsFalling (simulation s.case) ((shard_core 0 s).history r)
+  pub run : below (simulation s.case) s.bound ((shard_core 0 s).history r) ≡ own_run s.case r s.bound
 
 -- each of its routers is there once, what is pending suits its receiver, and what is held is in order
-pub record IsWhole (s : Shard) : Type 0 where
+pub record IsSoundShard (s : Shard) : Type 0 where
   pub case : IsCase s.case
   pub worker : s.worker < s.workers
-  pub apart : AreApart s.routers
+  pub apart : StandOnce s.routers
   pub long : length s.timelines ≡ length s.routers
   pub routers : (r : ℕ) → owns s r ≡ true → HasTimeline s r
   pub pending : AllByRecursion (λ e. suits s.case.net e.dst e ≡ true) s.pending

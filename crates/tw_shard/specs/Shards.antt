@@ -9,7 +9,7 @@ use Rattle.tw_event.specs.Order.{event_before}
 use Rattle.tw_model.specs.Case.{Case, simulation}
 use Rattle.tw_model.specs.declared.outcome.RouterEnd.{RouterEnd}
 use Rattle.tw_model.specs.Summary.{end_of}
-use Rattle.tw_shard.specs.Shard.{Shard, core, no_shard, owns}
+use Rattle.tw_shard.specs.Shard.{Shard, no_shard, owns, shard_core}
 use Rattle.tw_shard.specs.Timeline.{last_change_at}
 use Rattle.tw_sim.specs.Ordered.{insert_all}
 use Rattle.tw_sim.specs.Simulation.{IsFalling, state}
@@ -24,11 +24,11 @@ shard_for ss r = slice_index_or ss (unwrap_or (place_for ss r) 0) no_shard
 
 -- what router r has handled and not undone, the newest event first
 abbrev pub history_in : List Shard → ℕ → List Event
-history_in ss r = (core 0 (shard_for ss r)).history r
+history_in ss r = (shard_core 0 (shard_for ss r)).history r
 
 -- those of them that are committed
 abbrev pub committed_in : Case → List Shard → ℕ → List Event
-committed_in case ss r = committed (simulation case) (core 0 (shard_for ss r)) r
+committed_in case ss r = committed (simulation case) (shard_core 0 (shard_for ss r)) r
 
 -- each router of the case is at a shard of it
 pub record HaveAll (case : Case) (ss : List Shard) : Type 0 where
@@ -36,9 +36,9 @@ pub record HaveAll (case : Case) (ss : List Shard) : Type 0 where
   pub cases : (r : ℕ) → r < case.net.nodes → (shard_for ss r).case ≡ case
   pub own : (r : ℕ) → r < case.net.nodes → owns (shard_for ss r) r ≡ true
 
--- the routers keep their committed events, and their histories are in order
-pub record KeepAll (case : Case) (ss : List Shard) : Type 0 where
-  pub keeps : (r : ℕ) → r < case.net.nodes → (shard_for ss r).keeps ≡ true
+-- the routers retain their committed events, and their histories are in order
+pub record RetainAll (case : Case) (ss : List Shard) : Type 0 where
+  pub retains : (r : ℕ) → r < case.net.nodes → (shard_for ss r).retains ≡ true
   pub falling : (r : ℕ) → IsFalling (simulation case) (history_in ss r)
 
 -- the committed events of all routers, in the order of events

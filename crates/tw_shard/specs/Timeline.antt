@@ -25,8 +25,8 @@ pub record Timeline : Type 0 where
   pub room : ℕ
   -- the case that it is a router of
   pub case : Case
-  -- whether it keeps its committed events, or lets them go
-  pub keeps : Bool
+  -- whether it retains its committed events, or lets them go
+  pub retains : Bool
 
 -- all that the router has handled and not undone
 abbrev pub history : Timeline → List Event
@@ -52,7 +52,7 @@ router_of t = record { net = t.net; node = t.node; state = known t.net t.node (h
 
 -- nothing is handled
 abbrev pub opening_timeline : Case → Bool → ℕ → Timeline
-opening_timeline case keeps v = record { net = case.net; node = v; ahead = []; past = []; done = 0; room = OPENING_ROOM; case = case; keeps = keeps }
+opening_timeline case retains v = record { net = case.net; node = v; ahead = []; past = []; done = 0; room = OPENING_ROOM; case = case; retains = retains }
 
 -- what e sends, or sent, after this history
 abbrev pub sends_after : Timeline → List Event → Event → List Event
@@ -87,7 +87,7 @@ timeline_of a = record {
   done = a.past.done;
   room = a.room;
   case = a.past.case;
-  keeps = a.past.keeps;
+  retains = a.past.retains;
 }
 
 -- the router and the records are those of the history, committed events are before the bound at the latest commit, and the time of

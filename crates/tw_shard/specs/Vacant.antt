@@ -4,7 +4,7 @@ use Rattle.std.specs.List.{AllByRecursion}
 use Rattle.tw_model.specs.Case.{Case, IsCase, simulation}
 use Rattle.tw_shard.specs.Cut.{timeline_at}
 use Rattle.tw_shard.specs.declared.shard.vacant.VacantShard.TheInside.{Inside}
-use Rattle.tw_shard.specs.Roster.{AreApart, Stands, has}
+use Rattle.tw_shard.specs.Roster.{StandOnce, StandsInList, has}
 use Rattle.tw_sim.specs.declared.machine.Cancel.{Cancel}
 use Rattle.tw_sim.specs.Seq.{rest}
 
@@ -14,8 +14,8 @@ pub record Vacant : Type 0 where
   pub worker : ℕ
   pub workers : ℕ
   pub time : ℕ
-  -- whether its routers keep their committed events, and when what an undone event has sent is taken back
-  pub keeps : Bool
+  -- whether its routers retain their committed events, and when what an undone event has sent is taken back
+  pub retains : Bool
   pub cancel : Cancel
   -- the routers that it is to have, and those of them that have not come, in their order
   pub routers : List ℕ
@@ -28,7 +28,7 @@ vacant_of a = record {
   worker = a.worker;
   workers = a.workers;
   time = a.time;
-  keeps = a.keeps;
+  retains = a.retains;
   cancel = a.cancel;
   routers = a.roster.routers;
   missing = drop (length a.timelines.items) a.roster.routers;
@@ -38,10 +38,10 @@ vacant_of a = record {
 pub record IsVacant (a : Inside) : Type 0 where
   pub case : IsCase a.case.now
   pub worker : a.worker < a.workers
-  pub known : (k r : ℕ) → Stands a.roster.routers k r → r < a.case.now.net.nodes
-  pub apart : AreApart a.roster.routers
+  pub known : (k r : ℕ) → StandsInList a.roster.routers k r → r < a.case.now.net.nodes
+  pub apart : StandOnce a.roster.routers
   pub roster : a.roster.count ≡ a.case.now.net.nodes
-  pub timelines : a.timelines.items ≡ map (timeline_at a.case.now a.keeps a.time) (take (length a.timelines.items) a.roster.routers)
+  pub timelines : a.timelines.items ≡ map (timeline_at a.case.now a.retains a.time) (take (length a.timelines.items) a.roster.routers)
   pub rings : length a.rings.items + length a.timelines.items ≡ length a.roster.routers
   pub empty : AllByRecursion (λ ring. ring ≡ []) a.rings.items
   pub room : length a.roster.routers ≤ vec_capacity a.timelines

@@ -2,7 +2,7 @@
 //! Time, 1985).
 //!
 //! Contracts see a `Shard` as the record of its timelines, of what waits for its routers and of what they
-//! have sent (`specs/Shard`); `core` of that record is a Time Warp machine (`tw_core`) of these routers.
+//! have sent (`specs/Shard`); `shard_core` of that record is a Time Warp machine (`tw_core`) of these routers.
 //! Proved: a shard opens as that machine does; `handle_next`, `undo_last`, `receive` and `commit` are its
 //! steps, refusals among them; a refusal changes nothing, nor does want of memory, but that a `receive`
 //! may have undone some events that are not before its message. `laws` tells what good states are for

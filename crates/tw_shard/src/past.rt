@@ -11,13 +11,13 @@ use std::marker::Model;
 use tw_event::Event;
 use tw_instance::Case;
 
-/// The committed events of a router. Where they aren't kept, they are those of the one-thread run, and
+/// The committed events of a router. Where they aren't retained, they are those of the one-thread run, and
 /// only the newest one stays.
 #[derive(Drop)]
 pub(crate) struct Past<'a> {
     case: &'a Case,
     node: u32,
-    keeps: bool,
+    retains: bool,
     events: Vec<Event>,
     last: Option<Event>,
     done: u64,
@@ -35,15 +35,15 @@ impl<'a> Model for Past<'a> {
 
 impl<'a> Past<'a> {
     /// Nothing is committed at this router of a case.
-    pub(crate) fn new(alloc: Global, case: &'a Case, node: u32, keeps: bool) -> Past<'a>
-        ensures { result ≡ record { case = case.now; node = node; keeps = keeps; events = []; done = 0 } }
+    pub(crate) fn new(alloc: Global, case: &'a Case, node: u32, retains: bool) -> Past<'a>
+        ensures { result ≡ record { case = case.now; node = node; retains = retains; events = []; done = 0 } }
     {
         // What a case keeps is told by a read of it.
         let _ = case.instance();
         Past {
             case,
             node,
-            keeps,
+            retains,
             events: Vec::new(alloc),
             last: None,
             done: 0,
@@ -51,32 +51,32 @@ impl<'a> Past<'a> {
     }
 
     /// What this router of a case commits of its run before a time: its events, the oldest first, where they are
-    /// kept, and the newest of them.
+    /// retained, and the newest of them.
     pub(crate) fn at(
         case: &'a Case,
         node: u32,
-        keeps: bool,
+        retains: bool,
         events: Vec<Event>,
         last: Option<Event>,
         time: u64,
     ) -> Past<'a>
-        requires kept { keeps ≡ true → events.items ≡ reverse (own_run case.now node time) }
+        requires retained { retains ≡ true → events.items ≡ reverse (own_run case.now node time) }
         requires newest { last ≡ slice_get (own_run case.now node time) 0 }
-        ensures { result ≡ record { case = case.now; node = node; keeps = keeps; events = own_run case.now node time; done = time } }
+        ensures { result ≡ record { case = case.now; node = node; retains = retains; events = own_run case.now node time; done = time } }
     {
         Past {
             case,
             node,
-            keeps,
+            retains,
             events,
             last,
             done: time,
         }
     }
 
-    /// They themselves, the oldest first, where they are kept.
+    /// They themselves, the oldest first, where they are retained.
     pub(crate) fn into_events(self) -> Vec<Event>
-        ensures { self.entry.keeps ≡ true → result.items ≡ reverse self.entry.events }
+        ensures { self.entry.retains ≡ true → result.items ≡ reverse self.entry.events }
     {
         self.events
     }
@@ -97,7 +97,7 @@ impl<'a> Past<'a> {
 
     /// How many there are.
     pub(crate) fn len(&self) -> usize
-        requires { self.now.keeps ≡ true }
+        requires { self.now.retains ≡ true }
         ensures value { result ≡ length self.now.events }
         ensures most { result < 2 ^ 63 }
     {
@@ -106,29 +106,29 @@ impl<'a> Past<'a> {
 
     /// Event number `k`, from 0, the oldest first.
     pub(crate) fn event(&self, k: usize) -> Option<Event>
-        requires { self.now.keeps ≡ true }
+        requires { self.now.retains ≡ true }
         ensures { result ≡ slice_get (reverse self.now.events) k }
     {
         self.events.get(k).copied()
     }
 
     /// The events of these steps, the oldest first, and of the newer ones behind them become committed, to
-    /// this bound. Where they aren't kept, all to this bound are those of the one-thread run. It takes
-    /// memory only for events that are kept.
+    /// this bound. Where they aren't retained, all to this bound are those of the one-thread run. It takes
+    /// memory only for events that are retained.
     pub(crate) fn add(
         &mut self,
         steps: &[HandledEvent],
         newer: &[HandledEvent],
         bound: u64,
     ) -> Result<(), AllocError>
-        requires { self.old.keeps ≡ false
+        requires { self.old.retains ≡ false
             → events_of (reverse (steps.now ++ newer.now)) ++ self.old.events ≡ own_run self.old.case self.old.node bound }
         ensures ok { OnOk result
             (self.new ≡ record self.old { events = events_of (reverse (steps.now ++ newer.now)) ++ self.old.events; done = bound }) }
         ensures err { OnErr result (self.new ≡ self.old) }
         ensures free { length (steps.now ++ newer.now) ≡ 0 → IsOk result }
     {
-        keep(&mut self.events, steps, newer, self.keeps)?;
+        retain(&mut self.events, steps, newer, self.retains)?;
         let last = newest(steps, self.last);
         self.last = newest(newer, last);
         self.done = bound;
@@ -146,18 +146,18 @@ fn newest(steps: &[HandledEvent], older: Option<Event>) -> Option<Event>
     }
 }
 
-/// Adds the events of steps, and of newer ones, where they are kept.
-fn keep(
+/// Adds the events of steps, and of newer ones, where they are retained.
+fn retain(
     events: &mut Vec<Event>,
     steps: &[HandledEvent],
     newer: &[HandledEvent],
-    keeps: bool,
+    retains: bool,
 ) -> Result<(), AllocError>
-    ensures ok { OnOk result (keeps ≡ true → events.new.items ≡ events.old.items ++ events_of (steps.now ++ newer.now)) }
+    ensures ok { OnOk result (retains ≡ true → events.new.items ≡ events.old.items ++ events_of (steps.now ++ newer.now)) }
     ensures err { OnErr result (events.new.items ≡ events.old.items) }
     ensures free { length (steps.now ++ newer.now) ≡ 0 → IsOk result }
 {
-    if !keeps || (steps.is_empty() && newer.is_empty()) {
+    if !retains || (steps.is_empty() && newer.is_empty()) {
         return Ok(());
     }
     events.reserve(steps.len() + newer.len())?;

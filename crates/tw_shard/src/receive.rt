@@ -9,7 +9,7 @@ ghost use Rattle.tw_model.specs.Effect.{suits};
 ghost use Rattle.tw_core.specs.Steps.{after_antimessage, after_arrival, after_message, after_undoing_while};
 ghost use Rattle.tw_shard.specs.Arrival.{IsRolledBack, receiving, refusing, rolls};
 ghost use Rattle.tw_shard.specs.declared.rejection.Rejection.{Rejection as ARejection};
-ghost use Rattle.tw_shard.specs.Shard.{IsSameShare, IsWhole, core, owns, timeline};
+ghost use Rattle.tw_shard.specs.Shard.{IsSameShare, IsSoundShard, owns, shard_core, timeline};
 ghost use Rattle.tw_shard.specs.Timeline.{history};
 ghost use Rattle.tw_sim.specs.Ordered.{insert, take_out, times};
 
@@ -35,12 +35,12 @@ impl<'a> Shard<'a> {
     /// nothing has changed. It also comes back where memory was refused; then its receiver may have undone
     /// some events that are not before it, and nothing else has changed.
     pub fn receive(&mut self, message: Signed<Event>) -> Result<(), Returned>
-        ensures ok { (stop : ℕ) → OnOk result (receiving stop self.old message ≡ Ok (core stop self.new)) }
+        ensures ok { (stop : ℕ) → OnOk result (receiving stop self.old message ≡ Ok (shard_core stop self.new)) }
         ensures refused { (stop : ℕ) (f : ARejection) → IsErrOf result (record { message = message; why = or_memory.Fault f })
             ↔ (receiving stop self.old message ≡ Err f) }
         ensures back { IfErr result (λ e. e.message ≡ message) }
         ensures unchanged { (f : ARejection) → IsErrOf result (record { message = message; why = or_memory.Fault f }) → self.new ≡ self.old }
-        ensures memory { OnErr result ((stop : ℕ) → IsRolledBack (simulation self.old.case) message.event (core stop self.old) (core stop self.new)) }
+        ensures memory { OnErr result ((stop : ℕ) → IsRolledBack (simulation self.old.case) message.event (shard_core stop self.old) (shard_core stop self.new)) }
         ensures same { IsSameShare self.old self.new }
     {
         if let Err(rejection) = self.may_receive(&message.event) {
@@ -64,8 +64,8 @@ impl<'a> Shard<'a> {
     #[inline(always)]
     pub fn receive_welcome(&mut self, message: &Signed<Event>) -> Result<(), AllocError>
         requires { refusing self.old message.now.event ≡ Ok tt }
-        ensures ok { (stop : ℕ) → OnOk result (receiving stop self.old message.now ≡ Ok (core stop self.new)) }
-        ensures memory { OnErr result ((stop : ℕ) → IsRolledBack (simulation self.old.case) message.now.event (core stop self.old) (core stop self.new)) }
+        ensures ok { (stop : ℕ) → OnOk result (receiving stop self.old message.now ≡ Ok (shard_core stop self.new)) }
+        ensures memory { OnErr result ((stop : ℕ) → IsRolledBack (simulation self.old.case) message.now.event (shard_core stop self.old) (shard_core stop self.new)) }
         ensures same { IsSameShare self.old self.new }
     {
         self.take_in(message)?;
@@ -99,8 +99,8 @@ impl<'a> Shard<'a> {
         requires own { owns self.old message.now.event.dst ≡ true }
         requires late { self.old.bound ≤ message.now.event.time }
         requires suit { suits self.old.case.net message.now.event.dst message.now.event ≡ true }
-        ensures ok { (stop : ℕ) → OnOk result (core stop self.new ≡ after_arrival (simulation self.old.case) (core stop self.old) message.now) }
-        ensures err { OnErr result ((stop : ℕ) → IsRolledBack (simulation self.old.case) message.now.event (core stop self.old) (core stop self.new)) }
+        ensures ok { (stop : ℕ) → OnOk result (shard_core stop self.new ≡ after_arrival (simulation self.old.case) (shard_core stop self.old) message.now) }
+        ensures err { OnErr result ((stop : ℕ) → IsRolledBack (simulation self.old.case) message.now.event (shard_core stop self.old) (shard_core stop self.new)) }
         ensures same { IsSameShare self.old self.new }
     {
         if message.plus {
@@ -117,8 +117,8 @@ impl<'a> Shard<'a> {
         requires own { owns self.old event.now.dst ≡ true }
         requires late { self.old.bound ≤ event.now.time }
         requires suit { suits self.old.case.net event.now.dst event.now ≡ true }
-        ensures ok { (stop : ℕ) → OnOk result (core stop self.new ≡ after_message (simulation self.old.case) (core stop self.old) event.now) }
-        ensures err { OnErr result ((stop : ℕ) → IsRolledBack (simulation self.old.case) event.now (core stop self.old) (core stop self.new)) }
+        ensures ok { (stop : ℕ) → OnOk result (shard_core stop self.new ≡ after_message (simulation self.old.case) (shard_core stop self.old) event.now) }
+        ensures err { OnErr result ((stop : ℕ) → IsRolledBack (simulation self.old.case) event.now (shard_core stop self.old) (shard_core stop self.new)) }
         ensures same { IsSameShare self.old self.new }
     {
         // Of most messages this is all.
@@ -135,8 +135,8 @@ impl<'a> Shard<'a> {
         requires own { owns self.old event.now.dst ≡ true }
         requires late { self.old.bound ≤ event.now.time }
         requires suit { suits self.old.case.net event.now.dst event.now ≡ true }
-        ensures ok { (stop : ℕ) → OnOk result (core stop self.new ≡ after_message (simulation self.old.case) (core stop self.old) event.now) }
-        ensures err { OnErr result ((stop : ℕ) → IsRolledBack (simulation self.old.case) event.now (core stop self.old) (core stop self.new)) }
+        ensures ok { (stop : ℕ) → OnOk result (shard_core stop self.new ≡ after_message (simulation self.old.case) (shard_core stop self.old) event.now) }
+        ensures err { OnErr result ((stop : ℕ) → IsRolledBack (simulation self.old.case) event.now (shard_core stop self.old) (shard_core stop self.new)) }
         ensures same { IsSameShare self.old self.new }
     {
         if self.take_kept(event) {
@@ -152,8 +152,8 @@ impl<'a> Shard<'a> {
     fn withdraw(&mut self, event: &Event) -> Result<(), AllocError>
         requires own { owns self.old event.now.dst ≡ true }
         requires late { self.old.bound ≤ event.now.time }
-        ensures ok { (stop : ℕ) → OnOk result (core stop self.new ≡ after_antimessage (simulation self.old.case) (core stop self.old) event.now) }
-        ensures err { OnErr result ((stop : ℕ) → IsRolledBack (simulation self.old.case) event.now (core stop self.old) (core stop self.new)) }
+        ensures ok { (stop : ℕ) → OnOk result (shard_core stop self.new ≡ after_antimessage (simulation self.old.case) (shard_core stop self.old) event.now) }
+        ensures err { OnErr result ((stop : ℕ) → IsRolledBack (simulation self.old.case) event.now (shard_core stop self.old) (shard_core stop self.new)) }
         ensures same { IsSameShare self.old self.new }
     {
         if self.take_pending(event) {
@@ -172,9 +172,9 @@ impl<'a> Shard<'a> {
     fn roll_back(&mut self, event: &Event, reach: Reach) -> Result<(), AllocError>
         requires own { owns self.old event.now.dst ≡ true }
         requires late { self.old.bound ≤ event.now.time }
-        ensures ok { (stop : ℕ) → OnOk result (core stop self.new ≡ after_undoing_while (simulation self.old.case) (rolls reach event.now)
-            event.now.dst ((core stop self.old).history event.now.dst) (core stop self.old)) }
-        ensures undone { (stop : ℕ) → IsRolledBack (simulation self.old.case) event.now (core stop self.old) (core stop self.new) }
+        ensures ok { (stop : ℕ) → OnOk result (shard_core stop self.new ≡ after_undoing_while (simulation self.old.case) (rolls reach event.now)
+            event.now.dst ((shard_core stop self.old).history event.now.dst) (shard_core stop self.old)) }
+        ensures undone { (stop : ℕ) → IsRolledBack (simulation self.old.case) event.now (shard_core stop self.old) (shard_core stop self.new) }
         ensures kept { self.new.kept ≡ self.old.kept }
         ensures same { IsSameShare self.old self.new }
     {
@@ -191,7 +191,7 @@ impl<'a> Shard<'a> {
         requires own { owns self.now event.now.dst ≡ true }
         ensures value { result ≡ option_map_or (λ newest. rolls reach event.now newest) (slice_get (timeline self.now event.now.dst).ahead 0) false }
         ensures past { AllByRecursion (λ e. e.time < (timeline self.now event.now.dst).done) (timeline self.now event.now.dst).past }
-        ensures whole { IsWhole self.now }
+        ensures whole { IsSoundShard self.now }
     {
         match self.timeline(event.dst).newest_ahead() {
             None => false,
@@ -207,7 +207,7 @@ impl<'a> Shard<'a> {
         requires own { owns self.now event.now.dst ≡ true }
         ensures value { IsTrue result ↔ (0 < times event_same event.now (timeline self.now event.now.dst).ahead) }
         ensures past { AllByRecursion (λ e. e.time < (timeline self.now event.now.dst).done) (timeline self.now event.now.dst).past }
-        ensures whole { IsWhole self.now }
+        ensures whole { IsSoundShard self.now }
     {
         self.timeline(event.dst).has_ahead(event)
     }

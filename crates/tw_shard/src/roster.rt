@@ -21,13 +21,13 @@ pub(crate) struct Roster {
 
 impl Model for Roster {
     ghost use Rattle.tw_shard.specs.Roster as spec;
-    ghost use Rattle.tw_shard.specs.Roster.{IsPlaced, roster_of};
+    ghost use Rattle.tw_shard.specs.Roster.{IsIndexed, roster_of};
 
     ghost Value = { spec.Roster };
 
     ghost view = { roster_of };
 
-    ghost invariant = { IsPlaced };
+    ghost invariant = { IsIndexed };
 }
 
 impl Roster {

@@ -8,9 +8,9 @@ use tw_router::Router;
 pub struct RouterAt<'a> {
     /// The router as its events have left it.
     pub router: Router<'a>,
-    /// Its events, the oldest first, where they are kept; else none.
+    /// Its events, the oldest first, where they are retained; else none.
     pub events: Vec<Event>,
-    /// The newest of its events, whether these are kept or not.
+    /// The newest of its events, whether these are retained or not.
     pub newest: Option<Event>,
     /// The time, in ticks, of the last of its events that changed its path, or 0.
     pub last_change: u64,

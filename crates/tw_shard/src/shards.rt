@@ -4,8 +4,8 @@ ghost use Rattle.std.specs.List.{flat_map, range_with_len};
 ghost use Rattle.tw_core.specs.Machine.{committed};
 ghost use Rattle.tw_model.specs.Case.{IsCase, simulation};
 ghost use Rattle.tw_shard.specs.Cut.{NoneAhead};
-ghost use Rattle.tw_shard.specs.Shard.{IsOpeningShard, core, no_shard, owns};
-ghost use Rattle.tw_shard.specs.Shards.{HaveAll, KeepAll, committed_of_all, ahead_of_all, ends_of_all, change_of_all, oldest_in, pending_of_all, place_for, shard_for};
+ghost use Rattle.tw_shard.specs.Shard.{IsOpeningShard, no_shard, owns, shard_core};
+ghost use Rattle.tw_shard.specs.Shards.{HaveAll, RetainAll, ahead_of_all, change_of_all, committed_of_all, ends_of_all, oldest_in, pending_of_all, place_for, shard_for};
 
 use crate::shard::Shard;
 use std::alloc::{AllocError, Global};
@@ -14,21 +14,21 @@ use tw_instance::Case;
 use tw_model::RouterEnd;
 use tw_sim::Cancel;
 
-/// The shards of so many workers, by rising worker, as they begin. Routers keep their committed events, or
+/// The shards of so many workers, by rising worker, as they begin. Routers retain their committed events, or
 /// let them go; what an undone event has sent is taken back at once, or as late as may be.
 pub fn open_all<'a>(
     alloc: Global,
     case: &'a Case,
     workers: u32,
-    keeps: bool,
+    retains: bool,
     cancel: Cancel,
 ) -> Result<Vec<Shard<'a>>, AllocError>
     ensures count { IfOk result (λ v. length v.items ≡ workers) }
-    ensures each { IfOk result (λ v. (k : ℕ) → k < workers → IsOpeningShard case.now k workers keeps cancel (slice_index_or v.items k no_shard)) }
+    ensures each { IfOk result (λ v. (k : ℕ) → k < workers → IsOpeningShard case.now k workers retains cancel (slice_index_or v.items k no_shard)) }
 {
     let mut shards = Vec::with_capacity(alloc, workers as usize)?;
     for worker in 0..workers {
-        shards.push_reserved(Shard::open_with(alloc, case, worker, workers, keeps, cancel)?);
+        shards.push_reserved(Shard::open_with(alloc, case, worker, workers, retains, cancel)?);
     }
     Ok(shards)
 }
@@ -55,7 +55,7 @@ pub fn committed_events(
     shards: &[Shard<'_>],
 ) -> Result<Vec<Event>, AllocError>
     requires all { HaveAll case.now shards.now }
-    requires kept { KeepAll case.now shards.now }
+    requires retained { RetainAll case.now shards.now }
     ensures { IfOk result (λ v. v.items ≡ committed_of_all case.now shards.now) }
 {
     let mut events = committed_by_router(alloc, case, shards)?;
@@ -70,7 +70,7 @@ fn committed_by_router(
     shards: &[Shard<'_>],
 ) -> Result<Vec<Event>, AllocError>
     requires all { HaveAll case.now shards.now }
-    requires kept { KeepAll case.now shards.now }
+    requires retained { RetainAll case.now shards.now }
     ensures events { IfOk result (λ v. v.items ≡ flat_map (λ r. oldest_in case.now shards.now r) (range_with_len 0 case.now.net.nodes)) }
     ensures case { IsCase case.now }
 {
@@ -82,12 +82,12 @@ fn committed_by_router(
 }
 
 /// Adds as many of a router's events, the oldest first, as are committed. The router is one of the shard's,
-/// which keeps committed events.
+/// which retains committed events.
 fn add_committed(shard: &Shard<'_>, router: u32, events: &mut Vec<Event>) -> Result<(), AllocError>
     requires own { owns shard.now router ≡ true }
-    requires keeps { shard.now.keeps ≡ true }
+    requires retains { shard.now.retains ≡ true }
     ensures { OnOk result (events.new.items ≡ events.old.items
-        ++ take (length (committed (simulation shard.now.case) (core 0 shard.now) router)) (reverse ((core 0 shard.now).history router))) }
+        ++ take (length (committed (simulation shard.now.case) (shard_core 0 shard.now) router)) (reverse ((shard_core 0 shard.now).history router))) }
 {
     let count = shard.committed(router);
     events.reserve(count)?;

@@ -66,20 +66,20 @@ impl<'a> Model for Timeline<'a> {
 }
 
 impl<'a> Timeline<'a> {
-    /// The router of this number before it has handled anything, which keeps its committed events or lets
+    /// The router of this number before it has handled anything, which retains its committed events or lets
     /// them go.
     pub(crate) fn open(
         alloc: Global,
         case: &'a Case,
         node: u32,
-        keeps: bool,
+        retains: bool,
     ) -> Result<Timeline<'a>, AllocError>
         requires { node < case.now.net.nodes }
-        ensures { IfOk result (λ timeline. timeline ≡ opening_timeline case.now keeps node) }
+        ensures { IfOk result (λ timeline. timeline ≡ opening_timeline case.now retains node) }
     {
         Ok(Timeline {
             router: Router::new(alloc, case.instance(), node)?,
-            past: Past::new(alloc, case, node, keeps),
+            past: Past::new(alloc, case, node, retains),
             ahead: Ahead::new(alloc)?,
             room: OPENING_ROOM,
             past_change: 0,

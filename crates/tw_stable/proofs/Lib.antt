@@ -1,3 +1,4 @@
+pub mod Alone
 pub mod Meetings
 pub mod Rows
 pub mod Ways

@@ -1,8 +1,8 @@
 -- What is met on the way is stable and met once, and each stable assignment is met.
 use Rattle.std.proofs.Common.{◌≡◌, ℕ, zero, suc, ◌<◌, ◌≤◌, ◌==◌, true, false, List, [], ◌∷◌, ◌++◌, get_or, length, map, nat_le, nat_lt, Option, Some, None, refl, ap, sym, ◌∙◌, subst, inl, inr, arith, if◌then◌else◌}
 use Rattle.std.specs.List.{All, flat_map, range_with_len}
-use Rattle.std.proofs.lemmas.Bool.{cases_Bool, cases_eq, cases_lt, eq-eqb, leb-true, ltb-true, lt-ltb, ne_eqb}
-use Rattle.std.proofs.lemmas.List.{get_or-set_other, get_or-set_same, get_or_past, length-set}
+use Rattle.std.proofs.lemmas.Bool.{cases_Bool, cases_eq, cases_lt, leb-true, ltb-true, lt-ltb}
+use Rattle.std.proofs.lemmas.List.{get_or_past}
 use Rattle.std.proofs.lemmas.List.FromFn.{get_or-map-range_with_len, length-map-range_with_len}
 use Rattle.tw_event.specs.declared.event.PathNo.{PathNo}
 use Rattle.tw_model.specs.Case.{Case, IsCase}
@@ -23,44 +23,17 @@ use Rattle.tw_policy.proofs.Halts.{one_in, remaining_same}
 use Rattle.tw_policy.proofs.Left as left_lists
 use Rattle.tw_policy.proofs.Lists.{all_from, all_in, none_found}
 use Rattle.tw_policy.proofs.Search.{alone, first_in, in_one_of, not_again, once_filter, some_there}
-use Rattle.tw_elimination.specs.Narrowing.{AreLists, halt_within, keeps_all, list_at, one_round, total_in}
+use Rattle.tw_elimination.specs.Narrowing.{AreLists, halt_within, list_at, loses_none, one_round, total_in}
 use Rattle.tw_elimination.specs.Rounds.{left_in, rounds_of}
 use Rattle.tw_elimination.proofs.Halting.{left_paths, peer_below}
 use Rattle.tw_elimination.proofs.Kept.{all_kept_in, at_round, halt_has, halt_keeps, may_be, round_in, round_long, takes_none_more, total_same}
 use Rattle.tw_stable.specs.Splitting.{Found, Meeting, Split, eliminated, first_choice, first_paths, found_in, have_all, meetings, met_at, met_within, rib_at, splits_in, with_only}
+use Rattle.tw_stable.proofs.Alone.{only_among, only_else, only_is, only_long, only_there}
 
 -- the same list of two functions that agree
 map_same : {X : Type 0} (f g : ℕ → X) (vs : List ℕ) → ((v : ℕ) → In v vs → f v ≡ g v) → map f vs ≡ map g vs
 map_same f g [] same = refl
 map_same f g (v ∷ vs) same = ap (λ x. x ∷ map f vs) (same v (inl refl)) ∙ ap (λ xs. g v ∷ xs) (map_same f g vs (λ w k. same w (inr k)))
-
--- ---- one path alone at a router
-
-only_there : (lists : List (List PathNo)) (v : ℕ) (q : PathNo) → v < length lists → list_at (with_only lists v q) v ≡ q ∷ []
-only_there lists v q here = get_or-set_same lists v (q ∷ []) [] here
-
-only_else : (lists : List (List PathNo)) (v : ℕ) (q : PathNo) (w : ℕ) → (w ≡ v → ⊥) → list_at (with_only lists v q) w ≡ list_at lists w
-only_else lists v q w apart = get_or-set_other lists v w (q ∷ []) [] apart
-
-only_is : (lists : List (List PathNo)) (v : ℕ) (q : PathNo) → v < length lists → (w : ℕ) → list_at (with_only lists v q) w ≡ only_at (list_at lists) v q w
-only_is lists v q here w =
-    elim (cases_eq w v) [
-      | inl e ↦ rw (eq-eqb w v e) (ap (list_at (with_only lists v q)) e ∙ only_there lists v q here)
-      | inr apart ↦ rw (ne_eqb w v apart) (only_else lists v q w apart)
-    ]
-
-pub only_long : (lists : List (List PathNo)) (v : ℕ) (q : PathNo) → length (with_only lists v q) ≡ length lists
-only_long lists v q = length-set lists v (q ∷ [])
-
-pub only_among : (lists : List (List PathNo)) (v : ℕ) → v < length lists → (q : PathNo) → In q (list_at lists v) → (w : ℕ) (p : PathNo)
-    → In p (list_at (with_only lists v q) w) → In p (list_at lists w)
-only_among lists v here q i w p k =
-    elim (cases_eq w v) [
-      | inl e ↦ (
-          let one : In p (q ∷ []) = subst (In p) (ap (list_at (with_only lists v q)) e ∙ only_there lists v q here) k in
-          elim one [ inl same ↦ subst (λ z. In p (list_at lists z)) (sym e) (subst (λ z. In z (list_at lists v)) (sym same) i) | inr never ↦ absurd never ])
-      | inr apart ↦ subst (In p) (only_else lists v q w apart) k
-    ]
 
 -- ---- what is found
 
@@ -218,7 +191,7 @@ module _ (case : Case) (is : IsCase case) where
     pub stable : IsStableAssignment case.net states (rib_at r)
     pub there : (v : ℕ) → v < nodes → In (rib_at r v) (list_at lists v)
 
-  module _ (lists : List (List PathNo)) (halted : keeps_all case lists ≡ true) (none : first_choice case lists ≡ None) (any : have_all case lists ≡ true) where
+  module _ (lists : List (List PathNo)) (halted : loses_none case lists ≡ true) (none : first_choice case lists ≡ None) (any : have_all case lists ≡ true) where
     abbrev ribs : ℕ → PathNo
     ribs = first_of (list_at lists)
 
@@ -269,7 +242,7 @@ module _ (case : Case) (is : IsCase case) where
         let one : In (rib_at r v) (found.0 ∷ []) = subst (In (rib_at r v)) (only_there lists v found.0 (omega arith)) (within.there v here) in
         (found.0, found.2, within, elim one [ inl e ↦ e | inr never ↦ absurd never ])
 
-    halt_good : (lists : List (List PathNo)) → length lists ≡ nodes → keeps_all case lists ≡ true → (o : Option ℕ) → first_choice case lists ≡ o → (r : List PathNo)
+    halt_good : (lists : List (List PathNo)) → length lists ≡ nodes → loses_none case lists ≡ true → (o : Option ℕ) → first_choice case lists ≡ o → (r : List PathNo)
         → In (Found r) (met_at (met_within case n) case lists o) → IsWithin lists r
     halt_good lists long halted None none r i =
         elim (cases_Bool (have_all case lists)) [

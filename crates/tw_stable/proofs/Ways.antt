@@ -12,7 +12,8 @@ use Rattle.tw_policy.specs.Search.{has_choice}
 use Rattle.tw_elimination.specs.Narrowing.{AreLists, halt_within, list_at, total_in}
 use Rattle.tw_stable.specs.Splitting.{Found, Meeting, Split, are_enough, eliminated, first_choice, found_by, found_in, meetings, met_at, met_within, splits_in, with_only}
 use Rattle.tw_stable.specs.Progress.{Way, after_one, go_on}
-use Rattle.tw_stable.proofs.Meetings.{choice_here, halt_few, only_among, only_long, split_few}
+use Rattle.tw_stable.proofs.Meetings.{choice_here, halt_few, split_few}
+use Rattle.tw_stable.proofs.Alone.{only_among, only_long}
 use Rattle.tw_stable.proofs.Rows.{row_at}
 
 -- ---- one after the other

@@ -11,7 +11,7 @@ use Rattle.tw_table.specs.declared.rule.View.{View}
 use Rattle.tw_table.specs.declared.seat.Seat.{Seat}
 use Rattle.tw_table.specs.declared.table.Table.{Table}
 use Rattle.tw_table.specs.Seats.{IsSeatOf, bound_at, halted_at, share_at, stop_at}
-use Rattle.tw_table.specs.Shares.{IsRuled, IsWhole, Share, no_share}
+use Rattle.tw_table.specs.Shares.{AreGoodTogether, IsRuled, Share, no_share}
 use Rattle.tw_table.specs.Views.{IsMet, Knows, joined}
 
 or_true : (b : Bool) → (b || true) ≡ true
@@ -97,7 +97,7 @@ all_seen t all p [] is = is.seen (view p).seen (omega arith) tt
 all_seen t all p (s ∷ left) is = absurd (let l = is.len in omega arith)
 
 -- where a pass stands for all workers, the exchange that it takes and their shares are a good state
-pub closed : (x : Board) (v : View) (shares : List Share) (n : ℕ) → v.shares ≡ shares → v.workers ≡ n → length shares ≡ n → 0 < n → IsMet v.shares x → Knows x v → IsWhole x shares
+pub closed : (x : Board) (v : View) (shares : List Share) (n : ℕ) → v.shares ≡ shares → v.workers ≡ n → length shares ≡ n → 0 < n → IsMet v.shares x → Knows x v → AreGoodTogether x shares
 closed x v shares n is count long more met knows =
     let a = ap length is in
     let b = knows.workers (omega arith) in

@@ -18,7 +18,7 @@ use Rattle.tw_rule.proofs.Same.{machine_moves}
 use Rattle.tw_rule.specs.Moving.{HasFollowed, HaveGone, IsMoved}
 use Rattle.tw_rule.specs.Place.{Place}
 use Rattle.tw_rule.specs.Rule.{Rule, Stands, assembled}
-use Rattle.tw_shard.specs.Moving.{HasCome, HasLeft}
+use Rattle.tw_shard.specs.Moving.{HasMovedIn, HasMovedOut}
 use Rattle.tw_shard.specs.Shard.{Shard, owns, timeline}
 use Rattle.tw_shard.specs.Timeline.{Timeline, history}
 use Rattle.tw_sim.proofs.Counts.{times-filter-no, times-filter-yes, times-insert_all}
@@ -113,19 +113,19 @@ module _ {X : Type 0} (read : Timeline → X) (nothing : X) where
   pub none_left : (r : ℕ) (s s2 : Shard) → owns s2 r ≡ false → at s2 r ≡ nothing
   none_left r s s2 other = rw other refl
 
-  pub stays_left : (r k : ℕ) (s s2 : Shard) → HasLeft r s s2 → owns s2 k ≡ owns s k → at s2 k ≡ at s k
+  pub stays_left : (r k : ℕ) (s s2 : Shard) → HasMovedOut r s s2 → owns s2 k ≡ owns s k → at s2 k ≡ at s k
   stays_left r k s s2 left same = elim (cases_Bool (owns s k)) [
     | inl b ↦ rw (same, b) (ap read (left.timelines k (same ∙ b)))
     | inr b ↦ rw (same, b) refl
   ]
 
-  pub stays_came : (r k : ℕ) (s t t2 : Shard) → HasCome r s t t2 → owns t2 k ≡ owns t k → at t2 k ≡ at t k
+  pub stays_came : (r k : ℕ) (s t t2 : Shard) → HasMovedIn r s t t2 → owns t2 k ≡ owns t k → at t2 k ≡ at t k
   stays_came r k s t t2 came same = elim (cases_Bool (owns t k)) [
     | inl b ↦ rw (same, b) (ap read (came.others k b))
     | inr b ↦ rw (same, b) refl
   ]
 
-  pub has_come : (r : ℕ) (s t t2 : Shard) → HasCome r s t t2 → owns s r ≡ true → owns t2 r ≡ true → at t2 r ≡ at s r
+  pub has_come : (r : ℕ) (s t t2 : Shard) → HasMovedIn r s t t2 → owns s r ≡ true → owns t2 r ≡ true → at t2 r ≡ at s r
   has_come r s t t2 came was is = rw (was, is) (ap read came.moved)
 
 and_not_self : (b : Bool) (r : ℕ) → (b && not (r == r)) ≡ false

@@ -6,7 +6,7 @@ use Rattle.std.proofs.lemmas.List.{length-replicate}
 use Rattle.tw_core.specs.Machine.{Core}
 use Rattle.tw_event.specs.declared.event.Event.{Event}
 use Rattle.tw_event.specs.Order.{event_before}
-use Rattle.tw_exchange.specs.Board.{opening}
+use Rattle.tw_exchange.specs.Board.{new_board}
 use Rattle.tw_sim.specs.Owners.{owner}
 use Rattle.tw_model.proofs.Lawful.{lawful}
 use Rattle.tw_model.specs.Case.{Case, IsCase, opening_events, simulation}
@@ -78,10 +78,10 @@ in_order case n k (s ∷ shares) new =
     λ i. new.0.worker i ∷ rest i
 
 pub new_ruled : (case : Case) (stop : ℕ) (shares : List Share) → IsCase case → 0 < length shares → AreNew case 0 (length shares) shares
-    → IsRuled case (opening (length shares) 0 stop) shares
+    → IsRuled case (new_board (length shares) 0 stop) shares
 new_ruled case stop shares is some new =
     let n = length shares in
-    let x = opening n 0 stop in
+    let x = new_board n 0 stop in
     let m = simulation case in
     let many : length (map place_of shares) ≡ n = long_map place_of shares in
     let zero_time : Option ℕ = Some 0 in

@@ -19,7 +19,7 @@ use Rattle.tw_rule.specs.Rule.{MayGive, Rule, Stands, is_at}
 use Rattle.tw_sim.specs.declared.machine.Signed.{Signed}
 use Rattle.tw_table.proofs.Lists.{all_append}
 use Rattle.tw_table.proofs.Visiting.{among_rest}
-use Rattle.tw_table.specs.Shares.{IsRuled, IsWhole, MayBeGiven, Share, board_of, place_of}
+use Rattle.tw_table.specs.Shares.{AreGoodTogether, IsRuled, MayBeGiven, Share, board_of, place_of}
 use Rattle.tw_table.specs.Views.{IsVisitedBy}
 
 -- the same shares, in another order
@@ -148,7 +148,7 @@ given_one case x y s t others ruled may =
     }
 
 -- the workers' shares with the exchange are a good state
-pub whole_of : (case : Case) (x : Board) (shares : List Share) → IsRuled case x shares → IsWhole x shares
+pub whole_of : (case : Case) (x : Board) (shares : List Share) → IsRuled case x shares → AreGoodTogether x shares
 whole_of case x shares ruled = record {
   case = case;
   ruled = ruled;

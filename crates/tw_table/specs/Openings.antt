@@ -1,13 +1,13 @@
 -- What workers have as they begin (own).
 use Rattle.std.specs.Prelude.{ℕ, suc, ◌≡◌, ◌==◌, ◌&&◌, nat_lt, List, [], ◌∷◌}
 use Rattle.tw_model.specs.Case.{Case}
-use Rattle.tw_shard.specs.Shard.{core, opening_core, owns}
+use Rattle.tw_shard.specs.Shard.{opening_core, owns, shard_core}
 use Rattle.tw_sim.specs.Owners.{owner}
 use Rattle.tw_table.specs.Shares.{Share}
 
 -- worker k's share, of so many: its shard as it opens, which takes back at once or late, and an empty hand
 pub record IsNew (case : Case) (k workers : ℕ) (s : Share) : Type 0 where
-  pub core_is : (stop : ℕ) → core stop s.shard ≡ opening_core case k workers s.shard.cancel stop
+  pub core_is : (stop : ℕ) → shard_core stop s.shard ≡ opening_core case k workers s.shard.cancel stop
   pub case_is : s.shard.case ≡ case
   pub worker : s.shard.worker ≡ k
   -- it has the routers of the case that are this worker's

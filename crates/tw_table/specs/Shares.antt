@@ -11,7 +11,7 @@ use Rattle.tw_model.specs.Case.{Case, IsCase, simulation}
 use Rattle.tw_rule.specs.Board as rule
 use Rattle.tw_rule.specs.Place.{Place, whole}
 use Rattle.tw_rule.specs.Rule.{Rule, Stands, assembled}
-use Rattle.tw_shard.specs.Shard.{Shard, core, no_shard, owns}
+use Rattle.tw_shard.specs.Shard.{Shard, no_shard, owns, shard_core}
 use Rattle.tw_sim.specs.declared.machine.Signed.{Signed}
 use Rattle.tw_table.specs.declared.hand.Hand.{Hand}
 
@@ -40,14 +40,14 @@ abbrev pub place_of : Share → Place Event
 place_of s = record {
   worker = s.shard.worker;
   owns = owns s.shard;
-  history = (core 0 s.shard).history;
+  history = (shard_core 0 s.shard).history;
   pending = s.shard.pending;
   kept = s.shard.kept;
   outgoing = s.shard.outgoing;
   held = s.shard.held;
-  done = (core 0 s.shard).done;
-  past = (core 0 s.shard).past;
-  room = (core 0 s.shard).room;
+  done = (shard_core 0 s.shard).done;
+  past = (shard_core 0 s.shard).past;
+  room = (shard_core 0 s.shard).room;
   bound = s.shard.bound;
   cancel = s.shard.cancel;
   mail = s.mail;
@@ -98,7 +98,7 @@ pub record MayBeGiven (x : Board) (s : Share) (y : Board) (t : Share) : Type 0 w
   pub done : (r : ℕ) → (place_of s).done r ≤ (place_of t).done r
 
 -- the exchange and the shares of all workers are, put together, a good state of the machine of their case
-pub record IsWhole (x : Board) (shares : List Share) : Type 0 where
+pub record AreGoodTogether (x : Board) (shares : List Share) : Type 0 where
   pub case : Case
   pub ruled : IsRuled case x shares
   pub good : IsGood (simulation case) (assembled (board_of x) (map place_of shares))

@@ -1,7 +1,7 @@
 -- The rule of the table's queue: over the exchange in it, and over what each pass of it knows (own).
 use Rattle.std.specs.Prelude.{ℕ, ◌≡◌, ◌<◌, ◌≤◌, ◌⊎◌, ◌||◌, Bool, true, false, None, List, [], ◌∷◌, ◌++◌, drop, length, map, max, slice_index_or, take}
 use Rattle.std.specs.List.{AllByRecursion, flat_map}
-use Rattle.tw_exchange.specs.Board.{Board, opening, report_of, workers}
+use Rattle.tw_exchange.specs.Board.{Board, new_board, report_of, workers}
 use Rattle.tw_model.specs.Case.{Case}
 use Rattle.tw_table.specs.declared.rule.View.{View}
 use Rattle.tw_table.specs.Shares.{IsRuled, Share}
@@ -95,7 +95,7 @@ pub record Taken (v : View) (x : Board) (w : View) : Type 0 where
 
 -- the exchange as it was taken
 abbrev pub taken : View → Board
-taken v = slice_index_or v.held 0 (opening 0 0 0)
+taken v = slice_index_or v.held 0 (new_board 0 0 0)
 
 -- what one worker has done to the exchange x so far, whose owners, reports but its own, number of workers and stop are as they were, whose
 -- bound has not fallen, and whose mark that halts the workers was not taken back

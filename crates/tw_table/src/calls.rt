@@ -9,7 +9,7 @@ ghost use Rattle.tw_model.specs.Case.{Case};
 ghost use Rattle.tw_model.specs.declared.memory.OrMemory.TheVariants as or_memory;
 ghost use Rattle.tw_table.specs.declared.rule.View.{View as AView};
 ghost use Rattle.tw_table.specs.Seats.{IsHeldOf, IsSeatOf, bound_at, exchange_of, halted_at, halted_of, owners_on, report_at, share_at, share_of, stop_at, stop_of, stop_on, taken_by, was_halted_at, workers_at};
-ghost use Rattle.tw_table.specs.Shares.{IsRuled, IsWhole, MayBeGiven, Share as AShare, share, shares_of};
+ghost use Rattle.tw_table.specs.Shares.{AreGoodTogether, IsRuled, MayBeGiven, Share as AShare, share, shares_of};
 ghost use Rattle.tw_table.specs.Views.{Holds, IsMet, Knows, first_view, given, opened, took};
 
 use crate::hand::Hand;
@@ -183,7 +183,7 @@ impl Table {
     pub fn close<R: Wait>(rt: &R, table: Table, seats: Vec<Seat>) -> Result<Exchange, Missing>
         requires seats { AllByRecursion (IsSeatOf table) seats.items }
         ensures all { IsOk result ↔ (vec_len seats ≡ workers_at table) }
-        ensures whole { IfOk result (λ x. IsWhole x (map share_at seats.items)) }
+        ensures whole { IfOk result (λ x. AreGoodTogether x (map share_at seats.items)) }
         ensures stop { IfOk result (λ x. AllByRecursion (λ s. stop_at s ≡ x.stop) seats.items) }
         ensures bound { IfOk result (λ x. AllByRecursion (λ s. bound_at s ≤ x.bound) seats.items) }
         ensures halted { IfOk result (λ x. AllByRecursion (λ s. halted_at s ≡ true → x.halted ≡ true) seats.items) }

@@ -4,7 +4,7 @@ ghost use Rattle.std.specs.Prelude.{ℕ, ◌≡◌, ◌<◌, ◌≤◌, false, L
 ghost use Rattle.std.specs.List.{range_with_len};
 ghost use Rattle.tw_event.specs.declared.event.Event.{Event};
 ghost use Rattle.tw_core.specs.Machine.{IsSameMachine};
-ghost use Rattle.tw_exchange.specs.Board.{Board, IsBoard, IsListed, handed, is_early, is_homeless, opening, visited, who, workers};
+ghost use Rattle.tw_exchange.specs.Board.{Board, IsBoard, IsListed, handed, is_early, is_homeless, new_board, visited, who, workers};
 ghost use Rattle.tw_model.specs.Case.{Case, IsCase, simulation};
 ghost use Rattle.tw_rule.specs.Board.{IsVisit};
 ghost use Rattle.tw_rule.specs.Place.{IsRunBefore};
@@ -18,7 +18,7 @@ ghost use Rattle.tw_table.specs.Shares.{IsRuled, Share, board_of, place_of};
 /// rule. So a table can be opened with them.
 pub fn new_is_ruled()
     ensures ruled { (case : Case) (stop : ℕ) (shares : List Share) → IsCase case → 0 < length shares → AreNew case 0 (length shares) shares
-        → IsRuled case (opening (length shares) 0 stop) shares }
+        → IsRuled case (new_board (length shares) 0 stop) shares }
     ensures order { (case : Case) (shares : List Share) → AreNew case 0 (length shares) shares → map (λ s. s.shard.worker) shares ≡ range_with_len 0 (length shares) }
 {}
 

@@ -13,7 +13,7 @@ use Rattle.tw_text.specs.declared.keyword.Keyword.TheVariants as keyword
 use Rattle.tw_text.specs.declared.text_fault.LineFault.{LineFault}
 use Rattle.tw_text.specs.declared.text_fault.LineFault.TheVariants as x
 use Rattle.tw_text.specs.Drafts.{of_rule, step_said}
-use Rattle.tw_text.specs.FaultTable.{breaks, fault_of, from_second, has_no_number, holds, if_said, is_done, is_misplaced, is_no_statement, is_start, said_after, step, version_in}
+use Rattle.tw_text.specs.FaultTable.{breaks, draft_after, fault_of, from_second, has_no_number, holds, if_said, is_done, is_misplaced, is_no_statement, is_start, said_after, version_in}
 use Rattle.tw_text.specs.FaultTable.{unless_fault, with_header, with_line, with_said, with_statement}
 use Rattle.tw_text.specs.Statements.{Statement, scene_line, takes_words, keyword_before, keyword_of, numbers_of, scene_with, statement_with, statement_of}
 use Rattle.tw_text.specs.Versions.{version_of}
@@ -59,11 +59,11 @@ fault_of-form d line ended =
 pub plain_fault : (d : Draft) (line : List ℕ) (ended : Bool) → list_all is_plain line ≡ false → fault_of d line ended ≡ Some x.Byte
 plain_fault d line ended h = fault_of-form d line ended ∙ rw h refl
 
-pub plain_step : (d : Draft) (line : List ℕ) (ended : Bool) → list_all is_plain line ≡ false → step d line ended ≡ Err x.Byte
+pub plain_step : (d : Draft) (line : List ℕ) (ended : Bool) → list_all is_plain line ≡ false → draft_after d line ended ≡ Err x.Byte
 plain_step d line ended h = ap (λ fault. unless_fault fault (with_line d line)) (plain_fault d line ended h)
 
 -- a line that was read is plain
-pub plain-from_step : (d after : Draft) (line : List ℕ) (ended : Bool) → step d line ended ≡ Ok after → list_all is_plain line ≡ true
+pub plain-from_step : (d after : Draft) (line : List ℕ) (ended : Bool) → draft_after d line ended ≡ Ok after → list_all is_plain line ≡ true
 plain-from_step d after line ended h =
     elim (cases_Bool (list_all is_plain line)) [
       | inl t ↦ t
@@ -83,7 +83,7 @@ form-start (Some version) true said = refl
 form-start (Some version) false said = refl
 
 -- the step of line 1, by what was told of the header
-pub start_step : (line : List ℕ) (found : Option ℕ) (ended : Bool) → list_all is_plain line ≡ true → found ≡ version_of line → step Start line ended ≡ started found ended
+pub start_step : (line : List ℕ) (found : Option ℕ) (ended : Bool) → list_all is_plain line ≡ true → found ≡ version_of line → draft_after Start line ended ≡ started found ended
 unfolding with_line
 start_step line found ended plain is =
     ap (λ fault. unless_fault fault (with_header (version_of line))) (fault_of-form Start line ended ∙ rw plain refl)
@@ -131,7 +131,7 @@ with_line-later Start line h = absurd (cc)
 with_line-later d line h = refl
 
 pub later_step : (d : Draft) (line : List ℕ) (ended : Bool) → is_start d ≡ false → list_all is_plain line ≡ true
-    → step d line ended ≡ step_said d (said_after d line) ended
+    → draft_after d line ended ≡ step_said d (said_after d line) ended
 later_step d line ended later plain =
     rw (fault_of-form d line ended, with_line-later d line later, plain)
     (form-later d ended (is_some (version_of line)) (said_after d line) (early (version_in d) (words line)) later)

@@ -20,7 +20,7 @@ use Rattle.tw_text.specs.declared.draft.Draft.TheVariants.{Start, Header, Links,
 use Rattle.tw_text.specs.declared.text_fault.LineFault.{LineFault}
 use Rattle.tw_text.specs.declared.text_fault.LineFault.TheVariants as x
 use Rattle.tw_text.specs.Drafts.{fault_after, of_rule, step_by}
-use Rattle.tw_text.specs.FaultTable.{breaks, is_done, is_misplaced, is_start, said_after, step, unless_fault, version_in, with_statement}
+use Rattle.tw_text.specs.FaultTable.{breaks, draft_after, is_done, is_misplaced, is_start, said_after, unless_fault, version_in, with_statement}
 use Rattle.tw_text.specs.Reading.{case_of, case_reader, whole_case}
 use Rattle.tw_text.specs.Statements.{Statement, nodes_line, link_line, path_line, scene_line, end_line}
 use Rattle.tw_text.specs.Text.{ended_line, line_of, statements_of, text_of_case}
@@ -28,7 +28,7 @@ use Rattle.tw_text.specs.Versions.{header, version_of}
 use Rattle.tw_text.specs.Words.{words}
 use Rattle.tw_text.proofs.Faults.{later_step, plain-from_step, start_step, started}
 use Rattle.tw_text.proofs.Lines.{Fits}
-use Rattle.tw_text.proofs.Parts.{Keeps, follows_kept, text_read}
+use Rattle.tw_text.proofs.Parts.{PreservesDraft, follows_kept, text_read}
 use Rattle.tw_text.proofs.Said.{statement_of-is}
 use Rattle.tw_text.proofs.Splits.{join-words}
 use Rattle.tw_text.proofs.Steps.{bound}
@@ -122,7 +122,7 @@ no_fault (Some f) next after h = absurd (cc)
 
 -- the draft after a line without a fault
 abbrev Steps : Draft → Draft → List ℕ → Type 0
-Steps d after line = Keeps case_reader IsDraft lines_in d after line
+Steps d after line = PreservesDraft case_reader IsDraft lines_in d after line
 
 lines-more : (d next : Draft) (s : Statement) → is_start d ≡ false → is_start next ≡ false → version_in next ≡ version_in d → statements_in next ≡ statements_in d ++ s ∷ []
     → lines_in next ≡ lines_in d ++ line_of (version_in d) s ∷ []
@@ -144,13 +144,13 @@ begun d (scene_line s) = refl
 begun d end_line = refl
 
 -- nothing follows the end
-pub undone : (d after : Draft) (line : List ℕ) → step d line true ≡ Ok after → is_done d ≡ false
+pub undone : (d after : Draft) (line : List ℕ) → draft_after d line true ≡ Ok after → is_done d ≡ false
 undone Start after line stepped = refl
 undone d after line stepped =
     let b = bound (said_after d line) (λ s. step_by d s true) after (sym (later_step d line true refl (plain-from_step d after line true stepped)) ∙ stepped) in
     (fits d b.value refl (no_fault (fault_after d b.value true) (with_statement d b.value) after b.next).0).unended
 
-later_steps : (d after : Draft) (line : List ℕ) → is_start d ≡ false → IsDraft d → step d line true ≡ Ok after → Steps d after line
+later_steps : (d after : Draft) (line : List ℕ) → is_start d ≡ false → IsDraft d → draft_after d line true ≡ Ok after → Steps d after line
 later_steps d after line later h stepped =
     let plain = plain-from_step d after line true stepped in
     let b = bound (said_after d line) (λ s. step_by d s true) after (sym (later_step d line true later plain) ∙ stepped) in
@@ -180,13 +180,13 @@ header_within line version h = one_of version (in_find (λ version. bytes_eq lin
     one_of version (inr (inl e)) = rw e refl
     one_of version (inr (inr none)) = absurd none
 
-start_steps : (after : Draft) (line : List ℕ) → step Start line true ≡ Ok after → Steps Start after line
+start_steps : (after : Draft) (line : List ℕ) → draft_after Start line true ≡ Ok after → Steps Start after line
 start_steps after line stepped =
     let found = version_of line in
     let b = started_is found after (sym (start_step line found true (plain-from_step Start after line true stepped) refl) ∙ stepped) in
     record { draft = subst IsDraft b.2 tt; lines = sym (ap lines_in b.2) ∙ ap (λ l. l ∷ []) (sym (header_is line b.0 b.1)) }
 
-pub steps : (d after : Draft) (line : List ℕ) → IsDraft d → step d line true ≡ Ok after → Steps d after line
+pub steps : (d after : Draft) (line : List ℕ) → IsDraft d → draft_after d line true ≡ Ok after → Steps d after line
 steps Start after line h stepped = start_steps after line stepped
 steps d after line h stepped = later_steps d after line refl h stepped
 

@@ -4,7 +4,7 @@ use Rattle.std.specs.List.{find, list_all}
 use Rattle.tw_model.specs.Rules.{rules_in_order}
 use Rattle.tw_text.specs.declared.draft.Draft.{Draft}
 use Rattle.tw_text.specs.Drafts.{step_said}
-use Rattle.tw_text.specs.FaultTable.{breaks, is_done, is_misplaced, is_start, step, version_in, with_statement}
+use Rattle.tw_text.specs.FaultTable.{breaks, draft_after, is_done, is_misplaced, is_start, version_in, with_statement}
 use Rattle.tw_text.specs.Statements.{Statement, statement_of, word_of}
 use Rattle.tw_text.specs.Text.{keyword_in, line_of, numbers_in, words_of}
 use Rattle.tw_text.specs.Words.{is_plain, words}
@@ -25,7 +25,7 @@ pub record Fits (d : Draft) (s : Statement) : Type 0 where
   pub unended : is_done d ≡ false
   pub kept : find (breaks d s) rules_in_order ≡ None
 
-pub line-step : (d : Draft) (s : Statement) → IsSayable (version_in d) s → Fits d s → step d (line_of (version_in d) s) true ≡ Ok (with_statement d s)
+pub line-step : (d : Draft) (s : Statement) → IsSayable (version_in d) s → Fits d s → draft_after d (line_of (version_in d) s) true ≡ Ok (with_statement d s)
 line-step d s h f =
     let version = version_in d in
     later_step d (line_of version s) true f.later (plain-line version s h)

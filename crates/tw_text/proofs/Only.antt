@@ -16,7 +16,7 @@ use Rattle.tw_model.specs.declared.net.Link.{Link}
 use Rattle.tw_model.specs.declared.rule.Rule.TheVariants.{Version}
 use Rattle.tw_text.specs.declared.draft.Draft.{Draft}
 use Rattle.tw_text.specs.declared.draft.Draft.TheVariants.{Start, Header, Links, Paths, Scenes, Done}
-use Rattle.tw_text.specs.FaultTable.{is_done, is_misplaced, is_start, net_of, scenes_of, step, version_in, with_statement}
+use Rattle.tw_text.specs.FaultTable.{draft_after, is_done, is_misplaced, is_start, net_of, scenes_of, version_in, with_statement}
 use Rattle.tw_text.specs.Reading.{case_of, case_reader}
 use Rattle.tw_text.specs.Statements.{Statement, nodes_line, link_line, path_line, scene_line, end_line}
 use Rattle.tw_text.specs.Text.{line_of, lines_of, statements_of, text_of_case}
@@ -32,7 +32,7 @@ use Rattle.tw_text.proofs.Short.{link_short, nodes_short, path_short, scene_shor
 abbrev pub Leads : Draft → List (List ℕ) → Case → Type 0
 Leads d lines c = Follows case_reader d lines (Done c)
 
-leads_on : (d next : Draft) (c : Case) (line : List ℕ) (lines : List (List ℕ)) → step d line true ≡ Ok next → Leads next lines c → Leads d (line ∷ lines) c
+leads_on : (d next : Draft) (c : Case) (line : List ℕ) (lines : List (List ℕ)) → draft_after d line true ≡ Ok next → Leads next lines c → Leads d (line ∷ lines) c
 leads_on d next c line lines h g = (next, h, g)
 
 -- these statements of a version, one after another, lead from d to the case
@@ -43,7 +43,7 @@ say : (version : ℕ) (d : Draft) (c : Case) (s : Statement) (rest : List Statem
     → Lead version d (s ∷ rest) c
 say version d c s rest is h f g =
     leads_on d (with_statement d s) c (line_of version s) (map (line_of version) rest)
-    (subst (λ v. step d (line_of v s) true ≡ Ok (with_statement d s)) is (line-step d s (subst (λ v. IsSayable v s) (sym is) h) f)) g
+    (subst (λ v. draft_after d (line_of v s) true ≡ Ok (with_statement d s)) is (line-step d s (subst (λ v. IsSayable v s) (sym is) h) f)) g
 
 -- ---- what version 1 says
 

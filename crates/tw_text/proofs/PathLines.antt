@@ -16,7 +16,7 @@ use Rattle.tw_model.specs.Net.{Net}
 use Rattle.tw_model.specs.PermittedPath.{PermittedPath}
 use Rattle.tw_text.specs.declared.draft.Draft.TheVariants.{Paths}
 use Rattle.tw_text.specs.Drafts.{step_said, with_path}
-use Rattle.tw_text.specs.FaultTable.{step}
+use Rattle.tw_text.specs.FaultTable.{draft_after}
 use Rattle.tw_text.specs.PathLine.{AreNumbers, BeginsWith, IsPathLine}
 use Rattle.tw_text.specs.Statements.{◌>>=◌, keyword_before, keyword_of, numbers_of, statement_of, statement_with, word_of}
 use Rattle.tw_text.specs.Versions.{first_keywords, second_keywords}
@@ -108,5 +108,5 @@ path_line_from line front text ns is begins rest h two =
     rw spelt (path_line text ns h two)
 
 -- a path line, where paths may follow
-pub path_step : (version : ℕ) (net : Net) (line : List ℕ) (path : PermittedPath) → IsPathLine line path → step (Paths version net) line true ≡ with_path version net path
+pub path_step : (version : ℕ) (net : Net) (line : List ℕ) (path : PermittedPath) → IsPathLine line path → draft_after (Paths version net) line true ≡ with_path version net path
 path_step version net line path h = later_step (Paths version net) line true refl h.plain ∙ ap (λ said. step_said (Paths version net) said true) (h.said version)

@@ -16,7 +16,7 @@ use Rattle.tw_text.specs.declared.replay_text.ReplayDraft.TheVariants as replay
 use Rattle.tw_text.specs.declared.step_text.StepDraft.{StepDraft}
 use Rattle.tw_text.specs.declared.step_text.StepDraft.TheVariants as steps
 use Rattle.tw_text.specs.declared.text_fault.TextFault.{TextFault}
-use Rattle.tw_text.specs.FaultTable.{is_done, step}
+use Rattle.tw_text.specs.FaultTable.{draft_after, is_done}
 use Rattle.tw_text.specs.Reading.{case_reader}
 use Rattle.tw_text.specs.ReplayText.{after_case, after_replay_line, replay_of, replay_reader, seen, text_of_replay, whole_replay}
 use Rattle.tw_text.specs.Statements.{◌>>=◌}
@@ -24,15 +24,15 @@ use Rattle.tw_text.specs.StepText.{HasText, after_line, lines_of_steps, step_rea
 use Rattle.tw_text.specs.Text.{ended_line, lines_of, text_of_case}
 use Rattle.tw_text.proofs.Found.{IsDraft, lines_in, steps, undone}
 use Rattle.tw_text.proofs.Only.{case_plain, leads_case}
-use Rattle.tw_text.proofs.Parts.{Follows, IsPlainReader, Keeps, follows_kept, follows_on, text_read, text_reads}
+use Rattle.tw_text.proofs.Parts.{Follows, IsPlainReader, PreservesDraft, follows_kept, follows_on, text_read, text_reads}
 use Rattle.tw_text.proofs.StepTold.{IsStepDraft, leads_steps, no_steps, step_lines_in, steps_kept, steps_plain}
 use Rattle.tw_text.proofs.Steps.{bound}
 
 -- a line of the case text, or of the step text
-case_line : (d : Draft) (after : ReplayDraft) (l : List ℕ) → (step d l true >>= λ next. let r : Result ReplayDraft _ = Ok (after_case next) in r) ≡ Ok after
-    → ((next : Draft) × (step d l true ≡ Ok next) × (after_case next ≡ after))
+case_line : (d : Draft) (after : ReplayDraft) (l : List ℕ) → (draft_after d l true >>= λ next. let r : Result ReplayDraft _ = Ok (after_case next) in r) ≡ Ok after
+    → ((next : Draft) × (draft_after d l true ≡ Ok next) × (after_case next ≡ after))
 case_line d after l h =
-    let b = bound (step d l true) (λ next. let r : Result ReplayDraft _ = Ok (after_case next) in r) after h in
+    let b = bound (draft_after d l true) (λ next. let r : Result ReplayDraft _ = Ok (after_case next) in r) after h in
     (b.value, b.was, let r : Result ReplayDraft _ = Ok (after_case b.value) in let g : r ≡ Ok after = b.next in cc)
 
 step_line : (case : Case) (d : StepDraft) (after : ReplayDraft) (l : List ℕ) → (after_line d l true >>= λ next. let r : Result ReplayDraft _ = Ok (replay.Steps case next) in r) ≡ Ok after
@@ -69,16 +69,16 @@ same (Links version net) h = record { draft = h; lines = refl }
 same (Paths version net) h = record { draft = h; lines = refl }
 same (Scenes version case) h = record { draft = h; lines = refl }
 
-replay_kept : (d after : ReplayDraft) (l : List ℕ) → IsReplayDraft d → after_replay_line d l true ≡ Ok after → Keeps replay_reader IsReplayDraft replay_lines_in d after l
+replay_kept : (d after : ReplayDraft) (l : List ℕ) → IsReplayDraft d → after_replay_line d l true ≡ Ok after → PreservesDraft replay_reader IsReplayDraft replay_lines_in d after l
 replay_kept (replay.Case d) after l h stepped =
     let w = case_line d after l stepped in
     let k = steps d w.0 l h w.1 in
     let s = same w.0 k.draft in
-    subst (λ after. Keeps replay_reader IsReplayDraft replay_lines_in (replay.Case d) after l) w.2 (record { draft = s.draft; lines = s.lines ∙ k.lines })
+    subst (λ after. PreservesDraft replay_reader IsReplayDraft replay_lines_in (replay.Case d) after l) w.2 (record { draft = s.draft; lines = s.lines ∙ k.lines })
 replay_kept (replay.Steps case d) after l h stepped =
     let w = step_line case d after l stepped in
     let k = steps_kept d w.0 l h.1 w.1 in
-    subst (λ after. Keeps replay_reader IsReplayDraft replay_lines_in (replay.Steps case d) after l) w.2
+    subst (λ after. PreservesDraft replay_reader IsReplayDraft replay_lines_in (replay.Steps case d) after l) w.2
     (record { draft = (h.0, k.draft); lines = ap (λ ls. lines_of case ++ ls) k.lines ∙ sym (append_assoc (lines_of case) (step_lines_in d) (l ∷ [])) })
 
 -- both were read

@@ -17,7 +17,7 @@ use Rattle.tw_text.specs.declared.text_fault.TextFault.{TextFault}
 use Rattle.tw_text.specs.Drafts.{result_items}
 use Rattle.tw_text.specs.StepText.{HasLine, HasText, after_line, is_ended, is_past_most, line_of_step, lines_of_steps, step_reader, steps_in, steps_of, text_of_steps, whole_steps, with_step_line}
 use Rattle.tw_text.specs.Text.{ended_line}
-use Rattle.tw_text.proofs.Parts.{Follows, IsPlainReader, Keeps, follows_kept, text_read, text_reads}
+use Rattle.tw_text.proofs.Parts.{Follows, IsPlainReader, PreservesDraft, follows_kept, text_read, text_reads}
 use Rattle.tw_text.proofs.StepLines.{line_taken, takes}
 use Rattle.tw_text.proofs.StepSaid.{CanSay, end_said, line_text, line_was, step_said}
 
@@ -43,17 +43,17 @@ one_more : (steps : List Step) (s : Step) → HasText steps → nat_le MOST_STEP
 one_more steps s h few g = let n = length_push steps s in record { few = grind (arith, nat_tests); lines = each_more steps s h.lines g }
 
 adds : (d : StepDraft) (l : List ℕ) (said : StepLine) → IsStepDraft d → is_ended d ≡ false → is_past_most d said ≡ false → l ≡ line_text said → CanSay said
-    → Keeps step_reader IsStepDraft step_lines_in d (with_step_line d said) l
+    → PreservesDraft step_reader IsStepDraft step_lines_in d (with_step_line d said) l
 adds (Done steps) l said h unended few is can = absurd (cc)
 adds (Open steps) l (line.Step s) h unended few is can =
     record { draft = one_more steps s h few can; lines = map-append line_of_step steps (s ∷ []) ∙ ap (λ l. map line_of_step steps ++ l ∷ []) (sym is) }
 adds (Open steps) l line.End h unended few is can = record { draft = h; lines = ap (λ l. map line_of_step steps ++ l ∷ []) (sym is) }
 
-pub steps_kept : (d after : StepDraft) (l : List ℕ) → IsStepDraft d → after_line d l true ≡ Ok after → Keeps step_reader IsStepDraft step_lines_in d after l
+pub steps_kept : (d after : StepDraft) (l : List ℕ) → IsStepDraft d → after_line d l true ≡ Ok after → PreservesDraft step_reader IsStepDraft step_lines_in d after l
 steps_kept d after l h stepped =
     let t = takes d after l stepped in
     let w = line_was l t.said t.taken.says in
-    subst (λ after. Keeps step_reader IsStepDraft step_lines_in d after l) t.taken.same (adds d l t.said h t.taken.unended t.taken.few w.line w.can)
+    subst (λ after. PreservesDraft step_reader IsStepDraft step_lines_in d after l) t.taken.same (adds d l t.said h t.taken.unended t.taken.few w.line w.can)
 
 pub done_steps : (d : StepDraft) (steps : List Step) → whole_steps d ≡ Some steps → d ≡ Done steps
 done_steps (Done done) steps h = let e : done ≡ steps = cc in ap (λ s. Done s) e

@@ -19,7 +19,7 @@ use Rattle.tw_text.specs.declared.text_fault.LineFault.{LineFault}
 use Rattle.tw_text.specs.declared.text_fault.LineFault.TheVariants as x
 use Rattle.tw_text.specs.declared.text_fault.TextFault.{TextFault}
 use Rattle.tw_text.specs.Drafts.{fault_after, of_rule, step_by, step_said}
-use Rattle.tw_text.specs.FaultTable.{breaks, is_done, is_misplaced, is_start, net_of, said_after, scenes_of, step, unless_fault, version_in, with_statement}
+use Rattle.tw_text.specs.FaultTable.{breaks, draft_after, is_done, is_misplaced, is_start, net_of, said_after, scenes_of, unless_fault, version_in, with_statement}
 use Rattle.tw_text.specs.Reading.{at_line, case_of, case_reader, fault_at, finishes, reads, whole_at}
 use Rattle.tw_text.specs.Statements.{◌>>=◌, Statement, nodes_line, link_line, path_line, scene_line, end_line}
 use Rattle.tw_text.specs.Versions.{version_of}
@@ -71,19 +71,19 @@ suits_more d s h g =
     more (scene_line s) both h g = both _ (more_scenes (version_in d == 1) (net_of d).links (scenes_of d) s h g)
     more end_line both h g = both _ h
 
-later_suits : (d after : Draft) (line : List ℕ) → is_start d ≡ false → suits d ≡ true → step d line true ≡ Ok after → suits after ≡ true
+later_suits : (d after : Draft) (line : List ℕ) → is_start d ≡ false → suits d ≡ true → draft_after d line true ≡ Ok after → suits after ≡ true
 later_suits d after line later h stepped =
     let b = bound (said_after d line) (λ s. step_by d s true) after (sym (later_step d line true later (plain-from_step d after line true stepped)) ∙ stepped) in
     let n = no_fault (fault_after d b.value true) (with_statement d b.value) after b.next in
     subst (λ d. suits d ≡ true) n.1 (suits_more d b.value h (statement_of-says (version_in d) (words line) b.value b.was))
 
-start_suits : (after : Draft) (line : List ℕ) → step Start line true ≡ Ok after → suits after ≡ true
+start_suits : (after : Draft) (line : List ℕ) → draft_after Start line true ≡ Ok after → suits after ≡ true
 start_suits after line stepped =
     let found = version_of line in
     let b = started_is found after (sym (start_step line found true (plain-from_step Start after line true stepped) refl) ∙ stepped) in
     subst (λ d. suits d ≡ true) b.2 (rw (header_within line b.0 b.1) (or-true (not (b.0 == 1))))
 
-stays_suited : (d after : Draft) (line : List ℕ) → IsSuited d → step d line true ≡ Ok after → IsSuited after
+stays_suited : (d after : Draft) (line : List ℕ) → IsSuited d → draft_after d line true ≡ Ok after → IsSuited after
 stays_suited Start after line h stepped = λ later. start_suits after line stepped
 stays_suited d after line h stepped = λ later. later_suits d after line refl (h refl) stepped
 
@@ -140,11 +140,11 @@ start_fault None ended h = absurd (cc)
 start_fault (Some version) true h = absurd (cc)
 start_fault (Some version) false h = absurd (cc)
 
-plain_fault : (d : Draft) (line : List ℕ) (ended : Bool) → list_all is_plain line ≡ true → IsSuited d → step d line ended ≡ Err (x.Rule Version) → ⊥
+plain_fault : (d : Draft) (line : List ℕ) (ended : Bool) → list_all is_plain line ≡ true → IsSuited d → draft_after d line ended ≡ Err (x.Rule Version) → ⊥
 plain_fault Start line ended plain h e = start_fault (version_of line) ended (sym (start_step line (version_of line) ended plain refl) ∙ e)
 plain_fault d line ended plain h e = said_fault d (said_after d line) ended (h refl) (early (version_in d) (words line)) (sym (later_step d line ended refl plain) ∙ e)
 
-never_broken : (d : Draft) (line : List ℕ) (ended : Bool) → IsSuited d → step d line ended ≡ Err (x.Rule Version) → ⊥
+never_broken : (d : Draft) (line : List ℕ) (ended : Bool) → IsSuited d → draft_after d line ended ≡ Err (x.Rule Version) → ⊥
 never_broken d line ended h e =
     elim (cases_Bool (list_all is_plain line)) [
       | inl t ↦ plain_fault d line ended t h e
@@ -172,7 +172,7 @@ last_fault : (d : Draft) (k j : ℕ) (rest : List ℕ) → IsSuited d → finish
 last_fault d k j rest h e =
     elim (cases_Bool (length rest == 0)) [
       | inl t ↦ whole_fault k j (case_reader.whole d) (rw t at e)
-      | inr f ↦ line_fault k j (step d rest false) (λ _. Err (fault_at k x.End)) (x.Rule Version) (λ a is g. end_fault k j g) (never_broken d rest false h) (rw f at e)
+      | inr f ↦ line_fault k j (draft_after d rest false) (λ _. Err (fault_at k x.End)) (x.Rule Version) (λ a is g. end_fault k j g) (never_broken d rest false h) (rw f at e)
     ]
 
 no_line : (d : Draft) (k j : ℕ) (parts : List (List ℕ)) → IsSuited d → reads case_reader d k parts ≡ Err (fault_at j (x.Rule Version)) → ⊥
@@ -180,7 +180,7 @@ unfolding reads
 no_line d k j [] h e = end_fault k j e
 no_line d k j (rest ∷ []) h e = last_fault d k j rest h e
 no_line d k j (line ∷ next ∷ parts) h e =
-    line_fault k j (step d line true) (λ after. reads case_reader after (suc k) (next ∷ parts)) (x.Rule Version)
+    line_fault k j (draft_after d line true) (λ after. reads case_reader after (suc k) (next ∷ parts)) (x.Rule Version)
     (λ after is g. no_line after (suc k) j (next ∷ parts) (stays_suited d after line h is) g) (never_broken d line true h) e
 
 pub no_text : (text : List ℕ) (line : ℕ) → case_of text ≡ Err (fault_at line (x.Rule Version)) → ⊥

@@ -143,5 +143,5 @@ unless_fault (Some fault) next = Err fault
 unless_fault None next = Ok next
 
 -- the draft after the line, or the lowest fault of the line
-abbrev pub step : Draft → List ℕ → Bool → Result Draft LineFault
-step d line ended = unless_fault (fault_of d line ended) (with_line d line)
+abbrev pub draft_after : Draft → List ℕ → Bool → Result Draft LineFault
+draft_after d line ended = unless_fault (fault_of d line ended) (with_line d line)

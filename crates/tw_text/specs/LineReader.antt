@@ -4,7 +4,7 @@ use Rattle.std.specs.Result.{result_map_both}
 use Rattle.tw_text.specs.declared.text_fault.LineFault.{LineFault}
 
 -- how one kind of text is read, line by line: what a line, ended or not, makes of what those before it gave; and what they all gave, where none is missing
-pub record Reader (D A : Type 0) : Type 0 where
+pub record TextReader (D A : Type 0) : Type 0 where
   pub step : D → List ℕ → Bool → Result D LineFault
   pub whole : D → Option A
 

@@ -7,8 +7,8 @@ use Rattle.tw_text.specs.declared.draft.Draft.TheVariants.{Start, Done}
 use Rattle.tw_text.specs.declared.text_fault.LineFault.{LineFault}
 use Rattle.tw_text.specs.declared.text_fault.LineFault.TheVariants.{End}
 use Rattle.tw_text.specs.declared.text_fault.TextFault.{TextFault}
-use Rattle.tw_text.specs.FaultTable.{step}
-use Rattle.tw_text.specs.LineReader.{Reader}
+use Rattle.tw_text.specs.FaultTable.{draft_after}
+use Rattle.tw_text.specs.LineReader.{TextReader}
 use Rattle.tw_text.specs.Statements.{◌>>=◌}
 use Rattle.tw_text.specs.Words.{parts_of}
 
@@ -26,17 +26,17 @@ whole_at k (Some a) = Ok a
 whole_at k None = Err (fault_at k End)
 
 -- what follows the last line end, as line k: nothing, or a line with a fault
-abbrev pub finishes : {D A : Type 0} → Reader D A → D → ℕ → List ℕ → Result A TextFault
+abbrev pub finishes : {D A : Type 0} → TextReader D A → D → ℕ → List ℕ → Result A TextFault
 finishes r d k rest = if length rest == 0 then whole_at k (r.whole d) else at_line k (r.step d rest false) >>= λ _. Err (fault_at k End)
 
 -- the parts of a text, one at least, of which the first is line k: ended lines, and what follows the last line end
-unfoldable pub reads : {D A : Type 0} → Reader D A → D → ℕ → List (List ℕ) → Result A TextFault
+unfoldable pub reads : {D A : Type 0} → TextReader D A → D → ℕ → List (List ℕ) → Result A TextFault
 reads r d k [] = Err (fault_at k End)
 reads r d k (rest ∷ []) = finishes r d k rest
 reads r d k (line ∷ next ∷ parts) = at_line k (r.step d line true) >>= λ after. reads r after (suc k) (next ∷ parts)
 
 -- what a text gives that begins with d, or its first line with a fault, and the lowest fault of that line
-abbrev pub read_from : {D A : Type 0} → Reader D A → D → List ℕ → Result A TextFault
+abbrev pub read_from : {D A : Type 0} → TextReader D A → D → List ℕ → Result A TextFault
 read_from r d text = reads r d 1 (parts_of text)
 
 -- the case, where the last line was read
@@ -45,8 +45,8 @@ whole_case (Done case) = Some case
 whole_case d = None
 
 -- how a case text is read
-abbrev pub case_reader : Reader Draft Case
-case_reader = record { step = step; whole = whole_case }
+abbrev pub case_reader : TextReader Draft Case
+case_reader = record { step = draft_after; whole = whole_case }
 
 -- the case of a text, or its first line with a fault, and the lowest fault of that line
 unfoldable pub case_of : List ℕ → Result Case TextFault

@@ -12,8 +12,8 @@ use Rattle.tw_text.specs.declared.replay_text.ReplayDraft.TheVariants as replay
 use Rattle.tw_text.specs.declared.step_text.StepDraft.TheVariants.{Open}
 use Rattle.tw_text.specs.declared.text_fault.LineFault.{LineFault}
 use Rattle.tw_text.specs.declared.text_fault.TextFault.{TextFault}
-use Rattle.tw_text.specs.FaultTable.{step}
-use Rattle.tw_text.specs.LineReader.{Reader}
+use Rattle.tw_text.specs.FaultTable.{draft_after}
+use Rattle.tw_text.specs.LineReader.{TextReader}
 use Rattle.tw_text.specs.Reading.{read_from}
 use Rattle.tw_text.specs.Statements.{◌>>=◌}
 use Rattle.tw_text.specs.StepText.{after_line, text_of_steps, whole_steps}
@@ -30,7 +30,7 @@ after_case d = replay.Case d
 
 -- a line is one of the case text until its end, and then one of the step text
 abbrev pub after_replay_line : ReplayDraft → List ℕ → Bool → Result ReplayDraft LineFault
-after_replay_line (replay.Case d) l ended = step d l ended >>= λ after. Ok (after_case after)
+after_replay_line (replay.Case d) l ended = draft_after d l ended >>= λ after. Ok (after_case after)
 after_replay_line (replay.Steps case d) l ended = after_line d l ended >>= λ after. Ok (replay.Steps case after)
 
 -- the case and the steps, where the last line of both was read
@@ -39,7 +39,7 @@ whole_replay (replay.Case d) = None
 whole_replay (replay.Steps case d) = option_map (λ steps. (case, steps)) (whole_steps d)
 
 -- how a replay text is read
-abbrev pub replay_reader : Reader ReplayDraft (Case × List Step)
+abbrev pub replay_reader : TextReader ReplayDraft (Case × List Step)
 replay_reader = record { step = after_replay_line; whole = whole_replay }
 
 -- the case and the steps of a text, or its first line with a fault, and the lowest fault of that line

@@ -14,7 +14,7 @@ use Rattle.tw_text.specs.declared.text_fault.LineFault.TheVariants as x
 use Rattle.tw_text.specs.declared.text_fault.TextFault.{TextFault}
 use Rattle.tw_model.specs.declared.limits.TheConstants.{MOST_DIGITS, MOST_STEPS}
 use Rattle.tw_text.specs.FaultTable.{faults_in_order, has_no_number, if_said, is_no_statement, unless_fault, with_said}
-use Rattle.tw_text.specs.LineReader.{Reader}
+use Rattle.tw_text.specs.LineReader.{TextReader}
 use Rattle.tw_text.specs.Reading.{read_from}
 use Rattle.tw_text.specs.Statements.{◌>>=◌, number_of}
 use Rattle.tw_text.specs.Text.{ended_line}
@@ -134,7 +134,7 @@ whole_steps (Done steps) = Some steps
 whole_steps d = None
 
 -- how a step text is read
-abbrev pub step_reader : Reader StepDraft (List Step)
+abbrev pub step_reader : TextReader StepDraft (List Step)
 step_reader = record { step = after_line; whole = whole_steps }
 
 -- the steps of a text, or its first line with a fault, and the lowest fault of that line

@@ -4,7 +4,7 @@ ghost use Rattle.std.specs.List.{list_all};
 ghost use Rattle.std.specs.Prelude.{◌≡◌, map, false, true};
 ghost use Rattle.tw_model.specs.Memory.{IsUnlessMemory};
 ghost use Rattle.tw_text.specs.Drafts.{result_items, step_said};
-ghost use Rattle.tw_text.specs.FaultTable.{is_start, step, version_in};
+ghost use Rattle.tw_text.specs.FaultTable.{draft_after, is_start, version_in};
 ghost use Rattle.tw_text.specs.Statements.{keyword_before, keyword_of, numbers_of, statement_of};
 ghost use Rattle.tw_text.specs.Versions.{version_of};
 ghost use Rattle.tw_text.specs.Words.{is_plain, words};
@@ -24,7 +24,7 @@ pub(crate) fn read_line(
     line: &[u8],
     ended: bool,
 ) -> Result<Draft, OrMemory<LineFault>>
-    ensures { IsUnlessMemory result (step draft line.now ended) }
+    ensures { IsUnlessMemory result (draft_after draft line.now ended) }
 {
     if !is_plain_line(line) {
         return Err(OrMemory::Fault(LineFault::Byte));
@@ -38,7 +38,7 @@ pub(crate) fn read_line(
 /// What line 1 gives.
 fn read_header(line: &[u8], ended: bool) -> Result<Draft, LineFault>
     requires { list_all is_plain line.now ≡ true }
-    ensures { result ≡ step Draft.Start line.now ended }
+    ensures { result ≡ draft_after Draft.Start line.now ended }
 {
     match version_of(line) {
         Some(version) if ended => Ok(Draft::Header(version)),
@@ -69,7 +69,7 @@ fn read_later(
 ) -> Result<Draft, OrMemory<LineFault>>
     requires plain { list_all is_plain line.now ≡ true }
     requires later { is_start draft ≡ false }
-    ensures { IsUnlessMemory result (step draft line.now ended) }
+    ensures { IsUnlessMemory result (draft_after draft line.now ended) }
 {
     let words = split_words(alloc, line)?;
     read_words(alloc, draft, &words, ended)

@@ -2,7 +2,7 @@
 
 ghost use Rattle.std.specs.Prelude.{◌≡◌};
 ghost use Rattle.tw_model.specs.Memory.{IsUnlessMemory, map_fault};
-ghost use Rattle.tw_text.specs.LineReader.{Reader, left_by};
+ghost use Rattle.tw_text.specs.LineReader.{TextReader, left_by};
 ghost use Rattle.tw_text.specs.Reading.{fault_at, finishes, read_from, whole_at};
 
 use crate::text_fault::{LineFault, TextFault};
@@ -16,7 +16,7 @@ pub(crate) trait LineReader: Drop {
     type Whole;
 
     /// How the text is read.
-    ghost reader: { Reader Self Self.Whole };
+    ghost reader: { TextReader Self Self.Whole };
 
     /// Adds one more line, or answers the lowest fault of the line. `ended` says whether the line has
     /// its end.

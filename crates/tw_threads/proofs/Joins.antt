@@ -23,7 +23,7 @@ same_again a b c first then = record {
   worker = then.worker ∙ first.worker;
   workers = then.workers ∙ first.workers;
   routers = then.routers ∙ first.routers;
-  keeps = then.keeps ∙ first.keeps;
+  retains = then.retains ∙ first.retains;
   cancel = then.cancel ∙ first.cancel;
 }
 
@@ -177,7 +177,7 @@ module _ {W : Type 0} (share : W → Share) (stop : W → ℕ) where
 module _ {W : Type 0} (share : W → Share) where
   stay : (t : Table) (seats : List Seat) → AllByRecursion (IsSeatOf t) seats → AllZip (IsLaterSeat t) seats seats
   stay t [] h = tt
-  stay t (s ∷ seats) h = (record { seat = h.0; stop = refl; bound = omega arith; same = record { case = refl; worker = refl; workers = refl; routers = refl; keeps = refl; cancel = refl } }, stay t seats h.1)
+  stay t (s ∷ seats) h = (record { seat = h.0; stop = refl; bound = omega arith; same = record { case = refl; worker = refl; workers = refl; routers = refl; retains = refl; cancel = refl } }, stay t seats h.1)
 
   -- workers that took no turn have left as they were
   pub have_stayed : (t : Table) (before after : List Seat) (were are : List W) (why : Option EndCause) → after ≡ before → are ≡ were → why ≡ Some cause.Memory

@@ -2,7 +2,7 @@
 ghost use Rattle.std.specs.Prelude.{◌≡◌, ◌≤◌, Some, [], false, length, map, true, vec_capacity, vec_len};
 ghost use Rattle.std.specs.List.{AllByRecursion, AllZip};
 ghost use Rattle.tw_table.specs.Seats.{bound_at, stop_at, workers_at};
-ghost use Rattle.tw_table.specs.Shares.{IsWhole};
+ghost use Rattle.tw_table.specs.Shares.{AreGoodTogether};
 ghost use Rattle.tw_threads.specs.Left.{IsFullAhead};
 ghost use Rattle.tw_threads.specs.Started.{AreSeated, HaveLeft, IsStarted};
 ghost use Rattle.tw_workers.specs.Work.{AreSameShares};
@@ -49,7 +49,7 @@ pub fn run_all<W: Work + Send + Drop, G: Gate + Sync, R: Threads + Wait + Sync>(
 ) -> Ran<W>
     requires all { vec_len seats ≡ workers_at table }
     requires seated { AreSeated W.share W.stop table seats.items workers.items }
-    ensures whole { IsWhole result.exchange (map W.share result.workers.items) }
+    ensures whole { AreGoodTogether result.exchange (map W.share result.workers.items) }
     ensures same { AreSameShares (map W.share workers.items) (map W.share result.workers.items) }
     ensures stop { AllByRecursion (λ s. stop_at s ≡ result.exchange.stop) seats.items }
     ensures bound { AllByRecursion (λ s. bound_at s ≤ result.exchange.bound) seats.items }

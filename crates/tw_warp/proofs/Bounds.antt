@@ -18,20 +18,19 @@ use Rattle.tw_core.specs.Steps.{step}
 use Rattle.tw_event.specs.declared.event.Event.{Event}
 use Rattle.tw_event.specs.Order.{event_before}
 use Rattle.tw_model.specs.Case.{Case, simulation}
-use Rattle.tw_shard.specs.Shard.{Shard}
-use Rattle.tw_shard.specs.Shard as share
+use Rattle.tw_shard.specs.Shard.{Shard, shard_core}
 use Rattle.tw_sim.specs.declared.machine.Step.TheVariants.{Bound}
 use Rattle.tw_sim.specs.Owners.{owner}
 use Rattle.tw_sim.specs.Ordered.{insert_all}
 use Rattle.tw_sim.specs.Simulation.{one}
 use Rattle.tw_warp.specs.Bounds.{least_of_all, raised}
 use Rattle.tw_warp.specs.Flight.{all_of}
-use Rattle.tw_warp.specs.Warp.{IsShare, IsWarp, Warp, core, no_shard, shard_at, worker_of}
+use Rattle.tw_warp.specs.Warp.{IsShare, IsWarp, Warp, no_shard, shard_at, warp_core, worker_with}
 use Rattle.tw_warp.proofs.Moves.{has_worker, own_as}
 use Rattle.tw_warp.proofs.Moves as moves
 use Rattle.tw_warp.proofs.Turns.{any_default}
 use Rattle.tw_warp.proofs.Walks.{drop_next}
-use Rattle.tw_warp.proofs.Whole.{times-in_order}
+use Rattle.tw_warp.proofs.InOrder.{times-in_order}
 
 -- ---- numbers below a least time
 
@@ -150,34 +149,34 @@ module _ (w : Warp) (is : IsWarp w) (bound : ℕ) where
 
   -- what is read of each router's shard, which does not depend on its bound
   read_raised : {A : Type 0} (read : Shard → ℕ → A) → ((s : Shard) (r : ℕ) → read (raised bound s) r ≡ read s r)
-      → ◌≡◌ {A = ℕ → A} (λ r. read (shard_at (at_bound w bound) (worker_of (at_bound w bound) r)) r) (λ r. read (shard_at w (worker_of w r)) r)
+      → ◌≡◌ {A = ℕ → A} (λ r. read (shard_at (at_bound w bound) (worker_with (at_bound w bound) r)) r) (λ r. read (shard_at w (worker_with w r)) r)
   read_raised read same =
       fun_ext (λ r.
-      let at : worker_of (at_bound w bound) r ≡ worker_of w r = ap (λ n. owner n r) count in
-      ap (λ k. read (shard_at (at_bound w bound) k) r) at ∙ (ap (λ s. read s r) (shard_raised (worker_of w r) (has_worker w is r)) ∙ same (shard_at w (worker_of w r)) r))
+      let at : worker_with (at_bound w bound) r ≡ worker_with w r = ap (λ n. owner n r) count in
+      ap (λ k. read (shard_at (at_bound w bound) k) r) at ∙ (ap (λ s. read s r) (shard_raised (worker_with w r) (has_worker w is r)) ∙ same (shard_at w (worker_with w r)) r))
 
   -- the machine with another bound
-  pub core_raised : core (at_bound w bound) ≡ record (core w) { bound = bound }
+  pub core_raised : warp_core (at_bound w bound) ≡ record (warp_core w) { bound = bound }
   core_raised = λ i. record {
-    history = read_raised (λ s r. (share.core w.stop s).history r) (λ s r. refl) i;
+    history = read_raised (λ s r. (shard_core w.stop s).history r) (λ s r. refl) i;
     pending = insert_all event_before (flat_map-raised (λ s. s.pending) bound (λ s. refl) w.shards i) [];
     kept = insert_all event_before (flat_map-raised (λ s. s.kept) bound (λ s. refl) w.shards i) [];
     flight = w.flight;
     held = insert_all event_before (flat_map-raised (λ s. s.held) bound (λ s. refl) w.shards i) [];
-    done = read_raised (λ s r. (share.core w.stop s).done r) (λ s r. refl) i;
-    past = read_raised (λ s r. (share.core w.stop s).past r) (λ s r. refl) i;
-    room = read_raised (λ s r. (share.core w.stop s).room r) (λ s r. refl) i;
+    done = read_raised (λ s r. (shard_core w.stop s).done r) (λ s r. refl) i;
+    past = read_raised (λ s r. (shard_core w.stop s).past r) (λ s r. refl) i;
+    room = read_raised (λ s r. (shard_core w.stop s).room r) (λ s r. refl) i;
     bound = bound;
     stop = w.stop;
     cancel = w.cancel;
   }
 
   -- it is one where the bound is the least time of all that is loose
-  pub raised_is : bound ≡ least_loose (simulation w.case) (core w) → IsWarp (at_bound w bound)
+  pub raised_is : bound ≡ least_loose (simulation w.case) (warp_core w) → IsWarp (at_bound w bound)
   raised_is least =
       let m = simulation w.case in
-      let reached : core (at_bound w bound) ≡ with_bound m (core w) = core_raised ∙ ap (λ b. record (core w) { bound = b }) least in
-      let rises = bound_below m (moves.law w is) (core w) is.good in
+      let reached : warp_core (at_bound w bound) ≡ with_bound m (warp_core w) = core_raised ∙ ap (λ b. record (warp_core w) { bound = b }) least in
+      let rises = bound_below m (moves.law w is) (warp_core w) is.good in
       let same = count in
       record {
         case = is.case;
@@ -185,7 +184,7 @@ module _ (w : Warp) (is : IsWarp w) (bound : ℕ) where
         shares = λ k within.
             let old = is.shares k (omega arith) in
             let at = shard_raised k (omega arith) in
-            let own = own_as w.case k (length w.shards) (length (map (raised bound) w.shards)) (share.core w.stop (raised bound (shard_at w k))) (sym same)
+            let own = own_as w.case k (length w.shards) (length (map (raised bound) w.shards)) (shard_core w.stop (raised bound (shard_at w k))) (sym same)
             (record { history = old.own.history; waiting = old.own.waiting; held = old.own.held }) in
             let before = old.bound in
             subst (IsShare (at_bound w bound) k) (sym at) (record {
@@ -193,24 +192,24 @@ module _ (w : Warp) (is : IsWarp w) (bound : ℕ) where
               worker = old.worker;
               routers = λ r. old.routers r ∙ (λ i. nat_lt r w.case.net.nodes && (owner (sym same i) r == k));
               bound = omega arith;
-              keeps = old.keeps;
+              retains = old.retains;
               cancel = old.cancel;
               outgoing = old.outgoing;
               held = old.held;
               own = own;
             });
-        good = subst (IsGood m) (sym reached) (next_keeps m (moves.law w is) (core w) Bound is.good).good;
+        good = subst (IsGood m) (sym reached) (next_keeps m (moves.law w is) (warp_core w) Bound is.good).good;
         counted = subst (AreCounted m) (sym reached) is.counted;
         stop = is.stop;
       }
 
-  pub bound_step : bound ≡ least_loose (simulation w.case) (core w) → step (simulation w.case) (core w) Bound ≡ Ok (core (at_bound w bound))
-  bound_step least = ap Ok (ap (λ b. record (core w) { bound = b }) (sym least) ∙ sym core_raised)
+  pub bound_step : bound ≡ least_loose (simulation w.case) (warp_core w) → step (simulation w.case) (warp_core w) Bound ≡ Ok (warp_core (at_bound w bound))
+  bound_step least = ap Ok (ap (λ b. record (warp_core w) { bound = b }) (sym least) ∙ sym core_raised)
 
 -- the least time, as the code finds it
 pub least_found : (w : Warp) → IsWarp w
     → least_of_all (simulation w.case) (λ s. s.pending ++ s.kept ++ s.held) w.shards (least_time (simulation w.case) (map (λ x. x.event) w.flight) w.stop)
-    ≡ least_loose (simulation w.case) (core w)
+    ≡ least_loose (simulation w.case) (warp_core w)
 least_found w is =
     let m = simulation w.case in
     let flight = map (λ (x : Signed Event). x.event) w.flight in

@@ -7,7 +7,7 @@ use Rattle.tw_sim.proofs.Counts.{in_head, is_order, none, times-append, times-fi
 use Rattle.tw_sim.proofs.Ordered.{not_back}
 use Rattle.tw_sim.specs.Seq.{insert_all}
 use Rattle.tw_sim.specs.Simulation.{Simulation, IsFalling, IsLawful, only, times}
-use Rattle.tw_warp.proofs.Whole.{same_order}
+use Rattle.tw_warp.proofs.InOrder.{same_order}
 
 module _ {S E : Type 0} (m : Simulation S E) (law : IsLawful m) where
   -- the events of a falling history, each put in order before those that are there

@@ -18,14 +18,13 @@ use Rattle.tw_event.specs.declared.event.Event.{Event}
 use Rattle.tw_model.proofs.Lawful.{numbered}
 use Rattle.tw_model.specs.Case.{simulation}
 use Rattle.tw_shard.specs.Arrival.{AreUndone, IsRolledBack, refusing}
-use Rattle.tw_shard.specs.Shard.{IsSameShare, Shard}
-use Rattle.tw_shard.specs.Shard as share
+use Rattle.tw_shard.specs.Shard.{IsSameShare, Shard, shard_core}
 use Rattle.tw_sim.specs.declared.machine.Signed.{Signed}
 use Rattle.tw_sim.specs.declared.machine.Step.TheVariants.{Deliver, Undo}
 use Rattle.tw_sim.specs.Simulation.{Simulation, IsLawful, IsNumbered, state, times}
 use Rattle.tw_sim.proofs.Counts.{in_head}
 use Rattle.tw_sim.proofs.Rising.{IsRising}
-use Rattle.tw_warp.specs.Warp.{IsWarp, Warp, IsCutShort, after_undos, behind, core, lent, message_at, shard_at, worker_of}
+use Rattle.tw_warp.specs.Warp.{IsCutShort, IsWarp, Warp, after_undos, behind, lent, message_at, shard_at, warp_core, worker_with}
 use Rattle.tw_warp.proofs.Held.{rising_arrival, rising_undoing}
 use Rattle.tw_warp.proofs.InChunks.{before_others}
 use Rattle.tw_warp.proofs.Joined.{joined, rest, rest_apart, with_shard}
@@ -125,16 +124,16 @@ module _ {S E : Type 0} (m : Simulation S E) (law : IsLawful m) where
 -- ---- of the machine
 
 -- no message is at this place
-pub none_there : (w : Warp) (place : ℕ) → message_at w.flight place ≡ None → step (simulation w.case) (core w) (Deliver place) ≡ Err NoMessage
+pub none_there : (w : Warp) (place : ℕ) → message_at w.flight place ≡ None → step (simulation w.case) (warp_core w) (Deliver place) ≡ Err NoMessage
 none_there w zero none = refl
-none_there w (suc j) none = ap (deliver (simulation w.case) (core w) j) none
+none_there w (suc j) none = ap (deliver (simulation w.case) (warp_core w) j) none
 
 module _ (w : Warp) (is : IsWarp w) (k : ℕ) (within : k < length w.shards) where
   -- a message at a place may come
-  pub may_come : (place : ℕ) (x : Signed Event) → message_at w.flight place ≡ Some x → worker_of w x.event.dst ≡ k → refusing (shard_at w k) x.event ≡ Ok tt
+  pub may_come : (place : ℕ) (x : Signed Event) → message_at w.flight place ≡ Some x → worker_with w x.event.dst ≡ k → refusing (shard_at w k) x.event ≡ Ok tt
   may_come zero x there mine = cc there
   may_come (suc j) x there mine =
-      let fine = core_steps.welcome (simulation w.case) (law w is) (core w) j x is.good there in
+      let fine = core_steps.welcome (simulation w.case) (law w is) (warp_core w) j x is.good there in
       welcome_there w is k within x fine.0 fine.1 fine.2 mine
 
   -- what is known once the shard and the messages on their way have come back
@@ -146,61 +145,61 @@ module _ (w : Warp) (is : IsWarp w) (k : ℕ) (within : k < length w.shards) whe
   same_cancel s back = back.same.cancel ∙ (is.shares k within).cancel
 
   -- the machine with that shard
-  next_good : (s : Shard) (flight : List (Signed Event)) → IsBackFrom s → s.bound ≡ w.bound → IsRising (simulation w.case) s.held → IsOwn (simulation w.case) (λ r. worker_of w r == k) (share.core w.stop s)
-      → IsGood (simulation w.case) (core (with_shard w k s flight)) → AreCounted (simulation w.case) (core (with_shard w k s flight)) → IsWarp (with_shard w k s flight)
+  next_good : (s : Shard) (flight : List (Signed Event)) → IsBackFrom s → s.bound ≡ w.bound → IsRising (simulation w.case) s.held → IsOwn (simulation w.case) (λ r. worker_with w r == k) (shard_core w.stop s)
+      → IsGood (simulation w.case) (warp_core (with_shard w k s flight)) → AreCounted (simulation w.case) (warp_core (with_shard w k s flight)) → IsWarp (with_shard w k s flight)
   next_good s flight back bound rising own good counted =
       let bare : with_shard w k (record s { outgoing = [] }) flight ≡ with_shard w k s flight = λ i. with_shard w k (record s { outgoing = sym back.none i }) flight in
-      subst IsWarp bare (next_is w is k s flight within back.same bound rising own (subst (λ v. IsGood (simulation w.case) (core v)) (sym bare) good)
-      (subst (λ v. AreCounted (simulation w.case) (core v)) (sym bare) counted))
+      subst IsWarp bare (next_is w is k s flight within back.same bound rising own (subst (λ v. IsGood (simulation w.case) (warp_core v)) (sym bare) good)
+      (subst (λ v. AreCounted (simulation w.case) (warp_core v)) (sym bare) counted))
 
   -- the message has come, and leaves the flight
   pub record IsDelivered (place j : ℕ) (s : Shard) (flight : List (Signed Event)) : Type 0 where
-    pub did : step (simulation w.case) (core w) (Deliver place) ≡ Ok (core (with_shard w k s (remove flight j)))
+    pub did : step (simulation w.case) (warp_core w) (Deliver place) ≡ Ok (warp_core (with_shard w k s (remove flight j)))
     pub good : IsWarp (with_shard w k s (remove flight j))
 
-  delivered_at : (j : ℕ) (x : Signed Event) (s : Shard) (flight : List (Signed Event)) → slice_get w.flight j ≡ Some x → worker_of w x.event.dst ≡ k
-      → IsBackFrom s → after_arrival (simulation w.case) (share.core w.stop (lent w k)) x ≡ share.core w.stop (behind s flight) → IsDelivered (suc j) j s flight
+  delivered_at : (j : ℕ) (x : Signed Event) (s : Shard) (flight : List (Signed Event)) → slice_get w.flight j ≡ Some x → worker_with w x.event.dst ≡ k
+      → IsBackFrom s → after_arrival (simulation w.case) (shard_core w.stop (lent w k)) x ≡ shard_core w.stop (behind s flight) → IsDelivered (suc j) j s flight
   delivered_at j x s flight there mine back came =
       let m = simulation w.case in
-      let C = share.core w.stop (lent w k) in
+      let C = shard_core w.stop (lent w k) in
       let bound : s.bound ≡ w.bound = sym (ap (λ (D : Core Event). D.bound) came) ∙ (arrival_bound m (law w is) C x ∙ (is.shares k within).bound) in
-      let arrived = subst (IsOwn m (λ r. worker_of w r == k)) came
-      (own_arrival m (law w is) (λ r. worker_of w r == k) w.bound C x (part w is k within) (own_lent w is k within) (eq-eqb (worker_of w x.event.dst) k mine)) in
-      let own : IsOwn m (λ r. worker_of w r == k) (share.core w.stop s) = record { history = arrived.history; waiting = arrived.waiting; held = arrived.held } in
-      let did : step m (core w) (Deliver (suc j)) ≡ Ok (core (with_shard w k s (remove flight j))) =
+      let arrived = subst (IsOwn m (λ r. worker_with w r == k)) came
+      (own_arrival m (law w is) (λ r. worker_with w r == k) w.bound C x (part w is k within) (own_lent w is k within) (eq-eqb (worker_with w x.event.dst) k mine)) in
+      let own : IsOwn m (λ r. worker_with w r == k) (shard_core w.stop s) = record { history = arrived.history; waiting = arrived.waiting; held = arrived.held } in
+      let did : step m (warp_core w) (Deliver (suc j)) ≡ Ok (warp_core (with_shard w k s (remove flight j))) =
       deliver_step w is k within j x (behind s flight) there mine came ∙ ap Ok (sym (joined w is.case k within s (remove flight j) bound (same_cancel s back))) in
       let rising = subst (λ (D : Core Event). IsRising m D.held) came (rising_arrival m (law w is) C x (is.shares k within).held) in
       record {
         did = did;
-        good = next_good s (remove flight j) back bound rising own (step_keeps m (law w is) (core w) (core (with_shard w k s (remove flight j))) (Deliver (suc j)) is.good did).good
-            (step_counted m (law w is) (numbered w.case is.case) (core w) (core (with_shard w k s (remove flight j))) (Deliver (suc j)) is.good did is.counted);
+        good = next_good s (remove flight j) back bound rising own (step_keeps m (law w is) (warp_core w) (warp_core (with_shard w k s (remove flight j))) (Deliver (suc j)) is.good did).good
+            (step_counted m (law w is) (numbered w.case is.case) (warp_core w) (warp_core (with_shard w k s (remove flight j))) (Deliver (suc j)) is.good did is.counted);
       }
 
-  pub delivered : (place j : ℕ) → suc j ≡ place → (x : Signed Event) (s : Shard) (flight : List (Signed Event)) → message_at w.flight place ≡ Some x → worker_of w x.event.dst ≡ k
-      → IsBackFrom s → after_arrival (simulation w.case) (share.core w.stop (lent w k)) x ≡ share.core w.stop (behind s flight) → IsDelivered place j s flight
+  pub delivered : (place j : ℕ) → suc j ≡ place → (x : Signed Event) (s : Shard) (flight : List (Signed Event)) → message_at w.flight place ≡ Some x → worker_with w x.event.dst ≡ k
+      → IsBackFrom s → after_arrival (simulation w.case) (shard_core w.stop (lent w k)) x ≡ shard_core w.stop (behind s flight) → IsDelivered place j s flight
   delivered place j next x s flight there mine back came =
       subst (λ p. message_at w.flight p ≡ Some x → IsDelivered p j s flight) next (λ at. delivered_at j x s flight at mine back came) there
 
   -- memory was refused: some undo steps stand, and the message is where it was
   pub record IsCut (place : ℕ) (s : Shard) (flight : List (Signed Event)) : Type 0 where
-    pub cut : IsCutShort (simulation w.case) place (core w) (core (with_shard w k s flight))
+    pub cut : IsCutShort (simulation w.case) place (warp_core w) (warp_core (with_shard w k s flight))
     pub good : IsWarp (with_shard w k s flight)
 
-  pub cut_short : (place : ℕ) (x : Signed Event) (s : Shard) (flight : List (Signed Event)) → message_at w.flight place ≡ Some x → worker_of w x.event.dst ≡ k
-      → IsBackFrom s → IsRolledBack (simulation w.case) x.event (share.core w.stop (lent w k)) (share.core w.stop (behind s flight)) → IsCut place s flight
+  pub cut_short : (place : ℕ) (x : Signed Event) (s : Shard) (flight : List (Signed Event)) → message_at w.flight place ≡ Some x → worker_with w x.event.dst ≡ k
+      → IsBackFrom s → IsRolledBack (simulation w.case) x.event (shard_core w.stop (lent w k)) (shard_core w.stop (behind s flight)) → IsCut place s flight
   cut_short zero x s flight there mine back h = cc there
   cut_short (suc j) x s flight there mine back h =
       let m = simulation w.case in
-      let C = share.core w.stop (lent w k) in
-      let fine = core_steps.welcome m (law w is) (core w) j x is.good there in
+      let C = shard_core w.stop (lent w k) in
+      let fine = core_steps.welcome m (law w is) (warp_core w) j x is.good there in
       let early : C.bound ≤ x.event.time = subst (λ b. b ≤ x.event.time) (sym (is.shares k within).bound) fine.0 in
-      let to = undone_to m (law w is) (rest w k) (rest_apart w is.case k within is.shares) x.event h.0 C (share.core w.stop (behind s flight))
-      (eq-eqb (worker_of w x.event.dst) k mine) fine.1 early (is.shares k within).held (subst (IsGood m) (now w is k within) is.good) (own_lent w is k within) h.1 in
+      let to = undone_to m (law w is) (rest w k) (rest_apart w is.case k within is.shares) x.event h.0 C (shard_core w.stop (behind s flight))
+      (eq-eqb (worker_with w x.event.dst) k mine) fine.1 early (is.shares k within).held (subst (IsGood m) (now w is k within) is.good) (own_lent w is k within) h.1 in
       let bound : s.bound ≡ w.bound = to.bound ∙ (is.shares k within).bound in
-      let own : IsOwn m (λ r. worker_of w r == k) (share.core w.stop s) = record { history = to.own.history; waiting = to.own.waiting; held = to.own.held } in
-      let reached : core (with_shard w k s flight) ≡ whole m (rest w k) (share.core w.stop (behind s flight)) = joined w is.case k within s flight bound (same_cancel s back) in
+      let own : IsOwn m (λ r. worker_with w r == k) (shard_core w.stop s) = record { history = to.own.history; waiting = to.own.waiting; held = to.own.held } in
+      let reached : warp_core (with_shard w k s flight) ≡ whole m (rest w k) (shard_core w.stop (behind s flight)) = joined w is.case k within s flight bound (same_cancel s back) in
       let undone = reached ∙ (to.whole_is ∙ ap (after_undos m h.0 x.event.dst) (sym (now w is k within))) in
-      let counted = undos_counted m (law w is) (numbered w.case is.case) h.0 x.event.dst (core w) is.good is.counted in
+      let counted = undos_counted m (law w is) (numbered w.case is.case) h.0 x.event.dst (warp_core w) is.good is.counted in
       let stays : slice_get flight j ≡ Some x = ap (λ f. slice_get f j) to.sent.1 ∙ (before_others w.flight to.sent.0 j (slice_get_within w.flight j x there) ∙ there) in
       record {
         cut = record {
@@ -220,11 +219,11 @@ module _ (w : Warp) (is : IsWarp w) (k : ℕ) (within : k < length w.shards) whe
   }
 
   -- the messages on their way are there still, and what goes out stands behind them
-  pub longer : (at s : Shard) (x : Signed Event) (flight : List (Signed Event)) → after_arrival (simulation at.case) (share.core w.stop (behind at w.flight)) x ≡ share.core w.stop (behind s flight)
+  pub longer : (at s : Shard) (x : Signed Event) (flight : List (Signed Event)) → after_arrival (simulation at.case) (shard_core w.stop (behind at w.flight)) x ≡ shard_core w.stop (behind s flight)
       → length w.flight ≤ length flight
   longer at s x flight came =
       let m = simulation at.case in
-      let C = share.core w.stop (behind at w.flight) in
+      let C = shard_core w.stop (behind at w.flight) in
       let bare : Core Event = record C { flight = [] } in
       let back = (after_arrival m bare x).flight in
       let arrived : after_arrival m C x ≡ record (after_arrival m bare x) { flight = w.flight ++ back } =
@@ -234,21 +233,21 @@ module _ (w : Warp) (is : IsWarp w) (k : ℕ) (within : k < length w.shards) whe
       omega arith
 
   -- the same, as the code tells it
-  pub goes_home : (place j : ℕ) → suc j ≡ place → (x : Signed Event) (at s : Shard) (flight : List (Signed Event)) → message_at w.flight place ≡ Some x → worker_of w x.event.dst ≡ k
+  pub goes_home : (place j : ℕ) → suc j ≡ place → (x : Signed Event) (at s : Shard) (flight : List (Signed Event)) → message_at w.flight place ≡ Some x → worker_with w x.event.dst ≡ k
       → at ≡ shard_at w k → IsSameShare at s → s.outgoing ≡ at.outgoing
-      → after_arrival (simulation at.case) (share.core w.stop (behind at w.flight)) x ≡ share.core w.stop (behind s flight) → IsDelivered place j s flight
+      → after_arrival (simulation at.case) (shard_core w.stop (behind at w.flight)) x ≡ shard_core w.stop (behind s flight) → IsDelivered place j s flight
   goes_home place j next x at s flight message mine there same out came =
       delivered place j next x s flight message mine (came_from at s there same out)
-      (ap (λ case. after_arrival (simulation case) (share.core w.stop (lent w k)) x) (sym (is.shares k within).case)
-      ∙ subst (λ a. after_arrival (simulation a.case) (share.core w.stop (behind a w.flight)) x ≡ share.core w.stop (behind s flight)) there came)
+      (ap (λ case. after_arrival (simulation case) (shard_core w.stop (lent w k)) x) (sym (is.shares k within).case)
+      ∙ subst (λ a. after_arrival (simulation a.case) (shard_core w.stop (behind a w.flight)) x ≡ shard_core w.stop (behind s flight)) there came)
 
-  pub stops_short : (place : ℕ) (x : Signed Event) (at s : Shard) (flight : List (Signed Event)) → message_at w.flight place ≡ Some x → worker_of w x.event.dst ≡ k
+  pub stops_short : (place : ℕ) (x : Signed Event) (at s : Shard) (flight : List (Signed Event)) → message_at w.flight place ≡ Some x → worker_with w x.event.dst ≡ k
       → at ≡ shard_at w k → IsSameShare at s → s.outgoing ≡ at.outgoing
-      → IsRolledBack (simulation at.case) x.event (share.core w.stop (behind at w.flight)) (share.core w.stop (behind s flight)) → IsCut place s flight
+      → IsRolledBack (simulation at.case) x.event (shard_core w.stop (behind at w.flight)) (shard_core w.stop (behind s flight)) → IsCut place s flight
   stops_short place x at s flight message mine there same out h =
       cut_short place x s flight message mine (came_from at s there same out)
-      (subst (λ case. IsRolledBack (simulation case) x.event (share.core w.stop (lent w k)) (share.core w.stop (behind s flight))) (is.shares k within).case
-      (subst (λ a. IsRolledBack (simulation a.case) x.event (share.core w.stop (behind a w.flight)) (share.core w.stop (behind s flight))) there h))
+      (subst (λ case. IsRolledBack (simulation case) x.event (shard_core w.stop (lent w k)) (shard_core w.stop (behind s flight))) (is.shares k within).case
+      (subst (λ a. IsRolledBack (simulation a.case) x.event (shard_core w.stop (behind a w.flight)) (shard_core w.stop (behind s flight))) there h))
 
 -- a message found has a place from 1 on, within the messages on their way
 pub place_there : (flight : List (Signed Event)) (place : ℕ) (x : Signed Event) → message_at flight place ≡ Some x → (0 < place) × (place - 1 < length flight)

@@ -14,14 +14,14 @@ use Rattle.tw_model.specs.Case.{Case, simulation}
 use Rattle.tw_model.specs.declared.memory.OrMemory.{OrMemory}
 use Rattle.tw_model.specs.declared.memory.OrMemory.TheVariants as or_memory
 use Rattle.tw_shard.specs.Commit.{HasNothingToCommit}
-use Rattle.tw_shard.specs.Shard.{Shard, owns, timeline}
+use Rattle.tw_shard.specs.Shard.{Shard, owns, shard_core, timeline}
 use Rattle.tw_shard.specs.Shard as share
 use Rattle.tw_shard.specs.Timeline.{history}
 use Rattle.tw_sim.specs.declared.machine.Signed.{Signed}
 use Rattle.tw_warp.specs.Calls.{CallTakesNone, FreeAt}
 use Rattle.tw_warp.specs.declared.calls.RouterCall.{RouterCall}
 use Rattle.tw_warp.specs.declared.calls.RouterCall.TheVariants.{Commit, Handle, Release, Undo, Widen}
-use Rattle.tw_warp.specs.Warp.{IsWarp, Warp, core, lent, shard_at, worker_of}
+use Rattle.tw_warp.specs.Warp.{IsWarp, Warp, lent, shard_at, warp_core, worker_with}
 use Rattle.tw_warp.proofs.Joined.{rest, rest_apart}
 use Rattle.tw_warp.proofs.Moves.{has_worker, law, now}
 use Rattle.tw_warp.proofs.Whole.{held_at}
@@ -65,13 +65,13 @@ front xs ys =
 
 module _ (w : Warp) (is : IsWarp w) (r : ℕ) where
   abbrev k : ℕ
-  k = worker_of w r
+  k = worker_with w r
 
   abbrev s : Shard
   s = shard_at w k
 
   -- none of the events that r can undo is before the bound
-  free_commit : owns s r ≡ true → CallTakesNone (simulation w.case) Commit r (core w) → HasNothingToCommit s r
+  free_commit : owns s r ≡ true → CallTakesNone (simulation w.case) Commit r (warp_core w) → HasNothingToCommit s r
   free_commit own none =
       let t = timeline s r in
       let all : AllByRecursion (λ e. w.bound ≤ e.time) (take (length (t.ahead ++ t.past) - length t.past) (t.ahead ++ t.past)) =
@@ -81,15 +81,15 @@ module _ (w : Warp) (is : IsWarp w) (r : ℕ) where
       λ newer oldest same. subst (λ b. b ≤ oldest.time) (sym bound) (last_from w.bound newer oldest (subst (AllByRecursion (λ e. w.bound ≤ e.time)) same ahead))
 
   -- nothing is held for it
-  free_release : CallTakesNone (simulation w.case) Release r (core w) → from (simulation s.case) r s.held ≡ []
+  free_release : CallTakesNone (simulation w.case) Release r (warp_core w) → from (simulation s.case) r s.held ≡ []
   free_release none =
       let m = simulation w.case in
       let within = has_worker w is r in
-      let here = held_at m (law w is) (rest w k) (rest_apart w is.case k within is.shares) (share.core w.stop (lent w k)) r (eq-eqb k k refl) (is.shares k within).held in
+      let here = held_at m (law w is) (rest w k) (rest_apart w is.case k within is.shares) (shard_core w.stop (lent w k)) r (eq-eqb k k refl) (is.shares k within).held in
       let at : from m r s.held ≡ [] = sym here ∙ (ap (λ (W : Core Event). from m r W.held) (sym (now w is k within)) ∙ none) in
       subst (λ (c : Case). from (simulation c) r s.held ≡ []) (sym (is.shares k within).case) at
 
-  pub free_at : (call : RouterCall) → CallTakesNone (simulation w.case) call r (core w) → owns s r ≡ true → FreeAt call s r
+  pub free_at : (call : RouterCall) → CallTakesNone (simulation w.case) call r (warp_core w) → owns s r ≡ true → FreeAt call s r
   free_at Handle none own = none
   free_at Undo none own = none
   free_at Commit none own = free_commit own none

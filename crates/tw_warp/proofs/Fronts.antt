@@ -12,7 +12,7 @@ use Rattle.tw_model.specs.Case.{simulation}
 use Rattle.tw_model.specs.declared.memory.OrMemory.{OrMemory}
 use Rattle.tw_shard.specs.Arrival.{AreUndone, IsRolledBack}
 use Rattle.tw_shard.specs.Commit.{committing}
-use Rattle.tw_shard.specs.Shard.{Shard, core, handling, owns, releasing, undoing, widening}
+use Rattle.tw_shard.specs.Shard.{Shard, handling, owns, releasing, shard_core, undoing, widening}
 use Rattle.tw_sim.specs.declared.machine.Signed.{Signed}
 use Rattle.tw_sim.specs.Simulation.{Simulation, state}
 use Rattle.tw_warp.specs.Calls.{calling}
@@ -91,26 +91,26 @@ module _ (front : List (Signed Event)) where
   handling_blind : (stop r : ℕ) → IsBlindTo (λ s. handling stop s r)
   handling_blind stop r s xs =
       let m = simulation s.case in
-      let C = core stop (behind s xs) in
+      let C = shard_core stop (behind s xs) in
       ap (λ o. if owns s r then o else Err NotMine) (handle_fronted front m C r (first_pending m C r)) ∙ own_fronted front (owns s r) (handle m C r (first_pending m C r))
 
   undoing_blind : (stop r : ℕ) → IsBlindTo (λ s. undoing stop s r)
   undoing_blind stop r s xs =
       let m = simulation s.case in
-      let C = core stop (behind s xs) in
+      let C = shard_core stop (behind s xs) in
       ap (λ o. if owns s r then o else Err NotMine) (undo_fronted front m C r (C.history r)) ∙ own_fronted front (owns s r) (undo m C r (C.history r))
 
   committing_blind : (stop r : ℕ) → IsBlindTo (λ s. committing stop s r)
-  committing_blind stop r s xs = let m = simulation s.case in let C = core stop (behind s xs) in own_fronted front (owns s r) (Ok (with_commit m C r))
+  committing_blind stop r s xs = let m = simulation s.case in let C = shard_core stop (behind s xs) in own_fronted front (owns s r) (Ok (with_commit m C r))
 
   releasing_blind : (stop r : ℕ) → IsBlindTo (λ s. releasing stop s r)
   releasing_blind stop r s xs =
       let m = simulation s.case in
-      let C = core stop (behind s xs) in
+      let C = shard_core stop (behind s xs) in
       ap (λ D. if owns s r then Ok D else Err NotMine) (release_fronted front m C r) ∙ own_fronted front (owns s r) (Ok (with_release m C r))
 
   widening_blind : (stop r : ℕ) → IsBlindTo (λ s. widening stop s r)
-  widening_blind stop r s xs = let m = simulation s.case in let C = core stop (behind s xs) in own_fronted front (owns s r) (Ok (with_room m C r))
+  widening_blind stop r s xs = let m = simulation s.case in let C = shard_core stop (behind s xs) in own_fronted front (owns s r) (Ok (with_room m C r))
 
   pub calling_blind : (call : RouterCall) (stop r : ℕ) → IsBlindTo (λ s. calling call stop s r)
   calling_blind Handle stop r = handling_blind stop r
@@ -125,11 +125,11 @@ module _ (front : List (Signed Event)) where
     blind_call : (call : Shard → Result (Core Event) Refusal) → IsBlindTo call → call (behind s all) ≡ outcome_fronted front (call lent)
     blind_call call blind = ap (λ f. call (behind s f)) (sym was) ∙ (blind s xs ∙ ap (λ t. outcome_fronted front (call t)) (sym put))
 
-    left : fronted front (core stop called) ≡ core stop (behind back (front ++ ys))
-    left = ap (λ t. fronted front (core stop t)) (sym taken)
+    left : fronted front (shard_core stop called) ≡ shard_core stop (behind back (front ++ ys))
+    left = ap (λ t. fronted front (shard_core stop t)) (sym taken)
 
     pub went : (call : Shard → Result (Core Event) Refusal) → IsBlindTo call → (result : Result (Unit {0}) (OrMemory Refusal))
-        → OnOk result (call lent ≡ Ok (core stop called)) → OnOk result (call (behind s all) ≡ Ok (core stop (behind back (front ++ ys))))
+        → OnOk result (call lent ≡ Ok (shard_core stop called)) → OnOk result (call (behind s all) ≡ Ok (shard_core stop (behind back (front ++ ys))))
     went call blind (Ok u) did = blind_call call blind ∙ (ap (outcome_fronted front) did ∙ ap Ok left)
     went call blind (Err e) did = tt
 
@@ -140,17 +140,17 @@ module _ (front : List (Signed Event)) where
     )
 
     -- the same of a message that came
-    pub came : (x : Signed Event) → after_arrival (simulation s.case) (core stop (behind s xs)) x ≡ core stop called
-        → after_arrival (simulation s.case) (core stop (behind s all)) x ≡ core stop (behind back (front ++ ys))
+    pub came : (x : Signed Event) → after_arrival (simulation s.case) (shard_core stop (behind s xs)) x ≡ shard_core stop called
+        → after_arrival (simulation s.case) (shard_core stop (behind s all)) x ≡ shard_core stop (behind back (front ++ ys))
     came x h =
         let m = simulation s.case in
-        ap (λ f. after_arrival m (core stop (behind s f)) x) (sym was) ∙ (arrival-front m (core stop (behind s xs)) x front ∙ (ap (fronted front) h ∙ left))
+        ap (λ f. after_arrival m (shard_core stop (behind s f)) x) (sym was) ∙ (arrival-front m (shard_core stop (behind s xs)) x front ∙ (ap (fronted front) h ∙ left))
 
-    pub rolled_back : (e : Event) → IsRolledBack (simulation s.case) e (core stop (behind s xs)) (core stop called)
-        → IsRolledBack (simulation s.case) e (core stop (behind s all)) (core stop (behind back (front ++ ys)))
+    pub rolled_back : (e : Event) → IsRolledBack (simulation s.case) e (shard_core stop (behind s xs)) (shard_core stop called)
+        → IsRolledBack (simulation s.case) e (shard_core stop (behind s all)) (shard_core stop (behind back (front ++ ys)))
     rolled_back e h =
         let m = simulation s.case in (
           h.0,
-          subst (λ f. AreUndone m h.0 e (core stop (behind s f)) (core stop (behind back (front ++ ys)))) was
-              (subst (λ D. AreUndone m h.0 e (core stop (behind s (front ++ xs))) D) left (undone_fronted front m h.0 e (core stop (behind s xs)) (core stop called) h.1)),
+          subst (λ f. AreUndone m h.0 e (shard_core stop (behind s f)) (shard_core stop (behind back (front ++ ys)))) was
+              (subst (λ D. AreUndone m h.0 e (shard_core stop (behind s (front ++ xs))) D) left (undone_fronted front m h.0 e (shard_core stop (behind s xs)) (shard_core stop called) h.1)),
         )

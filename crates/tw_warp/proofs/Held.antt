@@ -9,7 +9,7 @@ use Rattle.tw_sim.specs.declared.machine.Cancel.{Cancel}
 use Rattle.tw_sim.specs.declared.machine.Cancel.TheVariants.{Aggressive, Lazy}
 use Rattle.tw_sim.specs.declared.machine.Signed.{Signed}
 use Rattle.tw_sim.specs.Simulation.{Simulation, IsLawful, state, times}
-use Rattle.tw_warp.proofs.Whole.{rising-take_out}
+use Rattle.tw_warp.proofs.InOrder.{rising-take_out}
 
 module _ {S E : Type 0} (m : Simulation S E) (law : IsLawful m) where
   rising_still : (xs held : List E) → IsRising m held → IsRising m (still_held m xs held)

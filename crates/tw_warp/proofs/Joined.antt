@@ -7,14 +7,14 @@ use Rattle.tw_event.specs.declared.event.Event.{Event}
 use Rattle.tw_event.specs.Order.{event_same}
 use Rattle.tw_model.specs.Case.{Case, IsCase, simulation}
 use Rattle.tw_model.proofs.Lawful.{lawful}
-use Rattle.tw_shard.specs.Shard.{Shard}
-use Rattle.tw_shard.specs.Shard as share
+use Rattle.tw_shard.specs.Shard.{Shard, shard_core}
 use Rattle.tw_sim.specs.declared.machine.Signed.{Signed}
 use Rattle.tw_sim.specs.Owners.{owner}
 use Rattle.tw_sim.specs.Ordered.{times}
 use Rattle.tw_sim.proofs.Counts.{none, times-append}
-use Rattle.tw_warp.specs.Warp.{IsShare, Warp, core, no_shard, shard_at, worker_of}
-use Rattle.tw_warp.proofs.Whole.{IsApart, Rest, same_order, whole}
+use Rattle.tw_warp.specs.Warp.{IsShare, Warp, no_shard, shard_at, warp_core, worker_with}
+use Rattle.tw_warp.proofs.InOrder.{same_order}
+use Rattle.tw_warp.proofs.Whole.{IsApart, Rest, whole}
 
 -- a list without its element at place k
 abbrev pub others : {A : Type 0} → List A → ℕ → List A
@@ -25,11 +25,11 @@ others (x ∷ xs) (suc k) = x ∷ others xs k
 -- the rest of the machine beside worker k
 abbrev pub rest : Warp → ℕ → Rest Event
 rest w k = record {
-  mine = λ r. worker_of w r == k;
-  history = (core w).history;
-  done = (core w).done;
-  past = (core w).past;
-  room = (core w).room;
+  mine = λ r. worker_with w r == k;
+  history = (warp_core w).history;
+  done = (warp_core w).done;
+  past = (warp_core w).past;
+  room = (warp_core w).room;
   pending = flat_map (λ s. s.pending) (others w.shards k);
   kept = flat_map (λ s. s.kept) (others w.shards k);
   held = flat_map (λ s. s.held) (others w.shards k);
@@ -92,25 +92,25 @@ set_same (x ∷ xs) (suc k) d within = ap (λ ys. x ∷ ys) (set_same xs k d (om
 module _ (w : Warp) (is : IsCase w.case) (k : ℕ) (within : k < length w.shards) where
   -- what is read of each router's shard is put at this worker's
   read_with : {A : Type 0} (read : Shard → ℕ → A) (s : Shard) (flight : List (Signed Event))
-      → ◌≡◌ {A = ℕ → A} (λ r. read (shard_at (with_shard w k s flight) (worker_of (with_shard w k s flight) r)) r)
-      (λ r. cond (worker_of w r == k) (read s r) (read (shard_at w (worker_of w r)) r))
+      → ◌≡◌ {A = ℕ → A} (λ r. read (shard_at (with_shard w k s flight) (worker_with (with_shard w k s flight) r)) r)
+      (λ r. cond (worker_with w r == k) (read s r) (read (shard_at w (worker_with w r)) r))
   read_with read s flight =
       fun_ext (λ r.
-      let same : worker_of (with_shard w k s flight) r ≡ worker_of w r = ap (λ n. owner n r) (length-set w.shards k s) in
+      let same : worker_with (with_shard w k s flight) r ≡ worker_with w r = ap (λ n. owner n r) (length-set w.shards k s) in
       ap (λ j. read (get_or (set w.shards k s) j no_shard) r) same
-      ∙ elim (cases_eq (worker_of w r) k) [
-        | inl here ↦ rw (eq-eqb (worker_of w r) k here) (ap (λ t. read t r) (ap (λ j. get_or (set w.shards k s) j no_shard) here ∙ get_or-set_same w.shards k s no_shard within))
-        | inr other ↦ rw (ne_eqb (worker_of w r) k other) (ap (λ t. read t r) (get_or-set_other w.shards k (worker_of w r) s no_shard other))
+      ∙ elim (cases_eq (worker_with w r) k) [
+        | inl here ↦ rw (eq-eqb (worker_with w r) k here) (ap (λ t. read t r) (ap (λ j. get_or (set w.shards k s) j no_shard) here ∙ get_or-set_same w.shards k s no_shard within))
+        | inr other ↦ rw (ne_eqb (worker_with w r) k other) (ap (λ t. read t r) (get_or-set_other w.shards k (worker_with w r) s no_shard other))
       ])
 
   -- the machine with another shard of this worker is that shard beside the rest
   pub joined : (s : Shard) (flight : List (Signed Event)) → s.bound ≡ w.bound → s.cancel ≡ w.cancel
-      → core (with_shard w k s flight) ≡ whole (simulation w.case) (rest w k) (record (share.core w.stop s) { flight = flight })
+      → warp_core (with_shard w k s flight) ≡ whole (simulation w.case) (rest w k) (record (shard_core w.stop s) { flight = flight })
   joined s flight bound cancel =
       let m = simulation w.case in
       let law = lawful w.case is in
       λ i. record {
-        history = read_with (λ s r. (share.core w.stop s).history r) s flight i;
+        history = read_with (λ s r. (shard_core w.stop s).history r) s flight i;
         pending = same_order m law (flat_map (λ s. s.pending) (set w.shards k s)) (flat_map (λ s. s.pending) (others w.shards k) ++ s.pending)
             (λ e. times-others w.case is e (λ s. s.pending) w.shards k s within) i;
         kept = same_order m law (flat_map (λ s. s.kept) (set w.shards k s)) (flat_map (λ s. s.kept) (others w.shards k) ++ s.kept)
@@ -118,9 +118,9 @@ module _ (w : Warp) (is : IsCase w.case) (k : ℕ) (within : k < length w.shards
         flight = flight;
         held = same_order m law (flat_map (λ s. s.held) (set w.shards k s)) (flat_map (λ s. s.held) (others w.shards k) ++ s.held)
             (λ e. times-others w.case is e (λ s. s.held) w.shards k s within) i;
-        done = read_with (λ s r. (share.core w.stop s).done r) s flight i;
-        past = read_with (λ s r. (share.core w.stop s).past r) s flight i;
-        room = read_with (λ s r. (share.core w.stop s).room r) s flight i;
+        done = read_with (λ s r. (shard_core w.stop s).done r) s flight i;
+        past = read_with (λ s r. (shard_core w.stop s).past r) s flight i;
+        room = read_with (λ s r. (shard_core w.stop s).room r) s flight i;
         bound = sym bound i;
         stop = w.stop;
         cancel = sym cancel i;
@@ -128,8 +128,8 @@ module _ (w : Warp) (is : IsCase w.case) (k : ℕ) (within : k < length w.shards
 
   -- and so is the machine as it stands
   pub joined_now : (shard_at w k).bound ≡ w.bound → (shard_at w k).cancel ≡ w.cancel
-      → core w ≡ whole (simulation w.case) (rest w k) (record (share.core w.stop (shard_at w k)) { flight = w.flight })
-  joined_now bound cancel = ap (λ shards. core (record w { shards = shards })) (sym (set_same w.shards k no_shard within)) ∙ joined (shard_at w k) w.flight bound cancel
+      → warp_core w ≡ whole (simulation w.case) (rest w k) (record (shard_core w.stop (shard_at w k)) { flight = w.flight })
+  joined_now bound cancel = ap (λ shards. warp_core (record w { shards = shards })) (sym (set_same w.shards k no_shard within)) ∙ joined (shard_at w k) w.flight bound cancel
 
   -- nothing of the rest waits for this worker's routers, or was sent by them and is held
   pub rest_apart : ((j : ℕ) → j < length w.shards → IsShare w j (shard_at w j)) → IsApart (simulation w.case) (rest w k)
@@ -138,15 +138,15 @@ module _ (w : Warp) (is : IsCase w.case) (k : ℕ) (within : k < length w.shards
         let at = in_others w.case is e (λ s. s.pending) no_shard w.shards k some in
         let count = at.3 in
         let theirs = (shares at.0 at.1).own.waiting e (omega arith) in
-        at.2 (sym (eqb-true (worker_of w e.dst) at.0 theirs) ∙ eqb-true (worker_of w e.dst) k mine));
+        at.2 (sym (eqb-true (worker_with w e.dst) at.0 theirs) ∙ eqb-true (worker_with w e.dst) k mine));
     kept = λ e mine. none (times event_same e (rest w k).kept) (λ some.
         let at = in_others w.case is e (λ s. s.kept) no_shard w.shards k some in
         let count = at.3 in
         let theirs = (shares at.0 at.1).own.waiting e (omega arith) in
-        at.2 (sym (eqb-true (worker_of w e.dst) at.0 theirs) ∙ eqb-true (worker_of w e.dst) k mine));
+        at.2 (sym (eqb-true (worker_with w e.dst) at.0 theirs) ∙ eqb-true (worker_with w e.dst) k mine));
     held = λ e mine. none (times event_same e (rest w k).held) (λ some.
         let at = in_others w.case is e (λ s. s.held) no_shard w.shards k some in
         let count = at.3 in
         let theirs = (shares at.0 at.1).own.held e (omega arith) in
-        at.2 (sym (eqb-true (worker_of w e.src) at.0 theirs) ∙ eqb-true (worker_of w e.src) k mine));
+        at.2 (sym (eqb-true (worker_with w e.src) at.0 theirs) ∙ eqb-true (worker_with w e.src) k mine));
   }

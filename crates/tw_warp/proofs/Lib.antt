@@ -1,3 +1,4 @@
+pub mod InOrder
 pub mod Whole
 pub mod Held
 pub mod Joined

@@ -19,12 +19,12 @@ use Rattle.tw_sim.specs.Simulation.{times}
 use Rattle.tw_sim.proofs.Counts.{in_filter, times-append, times-filter-no, times-filter-yes, times-insert_all}
 use Rattle.std.proofs.Math.Path.{fun_ext}
 use Rattle.tw_warp.specs.Openings.{opening_machine}
-use Rattle.tw_warp.proofs.Whole.{same_order}
-use Rattle.tw_warp.specs.Warp.{IsWarp, Warp, core, no_shard, shard_at, worker_of}
+use Rattle.tw_warp.proofs.InOrder.{same_order}
+use Rattle.tw_warp.specs.Warp.{IsWarp, Warp, no_shard, shard_at, warp_core, worker_with}
 
-module _ (case : Case) (is : IsCase case) (n : ℕ) (keeps : Bool) (cancel : Cancel) where
+module _ (case : Case) (is : IsCase case) (n : ℕ) (retains : Bool) (cancel : Cancel) where
   -- how often an event waits at a shard that begins
-  pub waits : (k : ℕ) (s : Shard) (e : Event) → IsOpeningShard case k n keeps cancel s
+  pub waits : (k : ℕ) (s : Shard) (e : Event) → IsOpeningShard case k n retains cancel s
       → times (simulation case) e s.pending ≡ cond (owner n e.dst == k) (times (simulation case) e (opening_events case.scenes)) 0
   waits k s e at =
       let m = simulation case in
@@ -39,14 +39,14 @@ module _ (case : Case) (is : IsCase case) (n : ℕ) (keeps : Bool) (cancel : Can
       ]
 
   -- over shards from number a on, it waits once for its receiver's worker
-  pub all_wait : (e : Event) (ss : List Shard) (a : ℕ) → ((j : ℕ) → j < length ss → IsOpeningShard case (a + j) n keeps cancel (get_or ss j no_shard))
+  pub all_wait : (e : Event) (ss : List Shard) (a : ℕ) → ((j : ℕ) → j < length ss → IsOpeningShard case (a + j) n retains cancel (get_or ss j no_shard))
       → (a ≤ owner n e.dst → owner n e.dst < a + length ss → times (simulation case) e (flat_map (λ s. s.pending) ss) ≡ times (simulation case) e (opening_events case.scenes))
       × (owner n e.dst < a → times (simulation case) e (flat_map (λ s. s.pending) ss) ≡ 0)
   all_wait e [] a each = ((λ from to. absurd (omega arith)), (λ before. refl))
   all_wait e (s ∷ ss) a each =
       let m = simulation case in
-      let first = waits a s e (subst (λ k. IsOpeningShard case k n keeps cancel s) (omega arith) (each 0 (omega arith))) in
-      let rest = all_wait e ss (a + 1) (λ j h. subst (λ k. IsOpeningShard case k n keeps cancel (get_or ss j no_shard)) (omega arith) (each (suc j) (omega arith))) in
+      let first = waits a s e (subst (λ k. IsOpeningShard case k n retains cancel s) (omega arith) (each 0 (omega arith))) in
+      let rest = all_wait e ss (a + 1) (λ j h. subst (λ k. IsOpeningShard case k n retains cancel (get_or ss j no_shard)) (omega arith) (each (suc j) (omega arith))) in
       let both : times m e (flat_map (λ s. s.pending) (s ∷ ss)) ≡ times m e s.pending + times m e (flat_map (λ s. s.pending) ss) = times-append m e s.pending (flat_map (λ s. s.pending) ss) in (
         (λ from to. elim (cases_eq (owner n e.dst) a) [
           | inl here ↦ (
@@ -61,18 +61,18 @@ module _ (case : Case) (is : IsCase case) (n : ℕ) (keeps : Bool) (cancel : Can
             let more = rest.1 (omega arith) in omega arith),
       )
 
-  none_kept : (ss : List Shard) (a : ℕ) → ((j : ℕ) → j < length ss → IsOpeningShard case (a + j) n keeps cancel (get_or ss j no_shard)) → flat_map (λ s. s.kept) ss ≡ []
+  none_kept : (ss : List Shard) (a : ℕ) → ((j : ℕ) → j < length ss → IsOpeningShard case (a + j) n retains cancel (get_or ss j no_shard)) → flat_map (λ s. s.kept) ss ≡ []
   none_kept [] a each = refl
   none_kept (s ∷ ss) a each =
       let first : s.kept ≡ [] = ap (λ (C : Core Event). C.kept) ((each 0 (omega arith)).core_is 0) in
-      let rest = none_kept ss (a + 1) (λ j h. subst (λ k. IsOpeningShard case k n keeps cancel (get_or ss j no_shard)) (omega arith) (each (suc j) (omega arith))) in
+      let rest = none_kept ss (a + 1) (λ j h. subst (λ k. IsOpeningShard case k n retains cancel (get_or ss j no_shard)) (omega arith) (each (suc j) (omega arith))) in
       λ i. first i ++ rest i
 
-  none_held : (ss : List Shard) (a : ℕ) → ((j : ℕ) → j < length ss → IsOpeningShard case (a + j) n keeps cancel (get_or ss j no_shard)) → flat_map (λ s. s.held) ss ≡ []
+  none_held : (ss : List Shard) (a : ℕ) → ((j : ℕ) → j < length ss → IsOpeningShard case (a + j) n retains cancel (get_or ss j no_shard)) → flat_map (λ s. s.held) ss ≡ []
   none_held [] a each = refl
   none_held (s ∷ ss) a each =
       let first : s.held ≡ [] = ap (λ (C : Core Event). C.held) ((each 0 (omega arith)).core_is 0) in
-      let rest = none_held ss (a + 1) (λ j h. subst (λ k. IsOpeningShard case k n keeps cancel (get_or ss j no_shard)) (omega arith) (each (suc j) (omega arith))) in
+      let rest = none_held ss (a + 1) (λ j h. subst (λ k. IsOpeningShard case k n retains cancel (get_or ss j no_shard)) (omega arith) (each (suc j) (omega arith))) in
       λ i. first i ++ rest i
 
 -- shards that begin, one for each worker
@@ -81,14 +81,14 @@ module _ (w : Warp) (is : IsCase w.case) (some : 0 < length w.shards) (each : (k
   from_zero : (j : ℕ) → j < length w.shards → IsOpeningShard w.case (0 + j) (length w.shards) true w.cancel (get_or w.shards j no_shard)
   from_zero j h = subst (λ k. IsOpeningShard w.case k (length w.shards) true w.cancel (shard_at w j)) (omega arith) (each j h)
 
-  own_worker : (r : ℕ) → worker_of w r < length w.shards
+  own_worker : (r : ℕ) → worker_with w r < length w.shards
   own_worker r = omega arith
 
-  pub opens : IsOpening (simulation w.case) (core w)
+  pub opens : IsOpening (simulation w.case) (warp_core w)
   opens =
       let m = simulation w.case in
       record {
-        history = λ r. ap (λ (C : Core Event). C.history r) ((each (worker_of w r) (own_worker r)).core_is w.stop);
+        history = λ r. ap (λ (C : Core Event). C.history r) ((each (worker_with w r) (own_worker r)).core_is w.stop);
         pending = λ e.
             let all = flat_map (λ s. s.pending) w.shards in
             let count = times-insert_all m e all [] in
@@ -97,13 +97,13 @@ module _ (w : Warp) (is : IsCase w.case) (some : 0 < length w.shards) (each : (k
         kept = ap (λ xs. insert_all event_before xs []) (none_kept w.case is (length w.shards) true w.cancel w.shards 0 from_zero);
         flight = flight;
         held = ap (λ xs. insert_all event_before xs []) (none_held w.case is (length w.shards) true w.cancel w.shards 0 from_zero);
-        done = λ r. ap (λ (C : Core Event). C.done r) ((each (worker_of w r) (own_worker r)).core_is w.stop);
-        past = λ r. ap (λ (C : Core Event). C.past r) ((each (worker_of w r) (own_worker r)).core_is w.stop);
+        done = λ r. ap (λ (C : Core Event). C.done r) ((each (worker_with w r) (own_worker r)).core_is w.stop);
+        past = λ r. ap (λ (C : Core Event). C.past r) ((each (worker_with w r) (own_worker r)).core_is w.stop);
         bound = bound;
-        room = λ r. ap (λ (C : Core Event). C.room r) ((each (worker_of w r) (own_worker r)).core_is w.stop);
+        room = λ r. ap (λ (C : Core Event). C.room r) ((each (worker_with w r) (own_worker r)).core_is w.stop);
       }
 
-  pub opens_exactly : core w ≡ opening_machine w.case w.cancel w.stop
+  pub opens_exactly : warp_core w ≡ opening_machine w.case w.cancel w.stop
   opens_exactly =
       let m = simulation w.case in
       let all = flat_map (λ s. s.pending) w.shards in
@@ -137,11 +137,11 @@ module _ (w : Warp) (is : IsCase w.case) (some : 0 < length w.shards) (each : (k
               worker = at.worker;
               routers = at.owns_are;
               bound = ap (λ (C : Core Event). C.bound) (at.core_is 0) ∙ sym bound;
-              keeps = at.keeps_are;
+              retains = at.retains_are;
               cancel = ap (λ (C : Core Event). C.cancel) (at.core_is 0);
               outgoing = ap (λ (C : Core Event). C.flight) (at.core_is 0);
               held = subst (λ (C : Core Event). IsRising event_before event_same C.held) (sym (at.core_is 0)) tt;
-              own = subst (IsOwn m (λ r. worker_of w r == k)) (sym (at.core_is w.stop)) (record {
+              own = subst (IsOwn m (λ r. worker_with w r == k)) (sym (at.core_is w.stop)) (record {
                 history = λ r e none. absurd (omega arith);
                 held = λ e none. absurd (omega arith);
                 waiting = λ e there.
@@ -150,8 +150,8 @@ module _ (w : Warp) (is : IsCase w.case) (some : 0 < length w.shards) (each : (k
                     (in_filter m (lawful w.case is) (λ x. owner (length w.shards) x.dst == k) e (opening_events w.case.scenes) (omega arith)).0;
               });
             };
-        good = good_opening m (lawful w.case is) (core w) opens;
-        counted = opening_counted m (core w) opens;
+        good = good_opening m (lawful w.case is) (warp_core w) opens;
+        counted = opening_counted m (warp_core w) opens;
         stop = most;
       }
 

@@ -10,7 +10,7 @@ use Rattle.tw_sim.specs.declared.machine.Step.{Step}
 use Rattle.tw_sim.specs.Simulation.{Simulation}
 use Rattle.tw_warp.specs.declared.warp.RunFault.{RunFault}
 use Rattle.tw_warp.specs.Runs.{IsBrokenOff}
-use Rattle.tw_warp.specs.Warp.{IsInterrupted, IsSameMachine, Warp, core}
+use Rattle.tw_warp.specs.Warp.{HasSameSettings, IsInterrupted, Warp, warp_core}
 use Rattle.tw_model.specs.Case.{simulation}
 
 module _ {S E : Type 0} (m : Simulation S E) where
@@ -74,7 +74,7 @@ module _ {S E : Type 0} (m : Simulation S E) where
   }
 
 -- a machine that is the same as one that is the same
-pub same_machine : {u v w : Warp} → IsSameMachine u v → IsSameMachine v w → IsSameMachine u w
+pub same_machine : {u v w : Warp} → HasSameSettings u v → HasSameSettings v w → HasSameSettings u w
 same_machine first second = record {
   case = second.case ∙ first.case;
   workers = second.workers ∙ first.workers;
@@ -84,21 +84,21 @@ same_machine first second = record {
 
 -- ---- of the machine, whose case stays
 
-module _ (u v w : Warp) (same : IsSameMachine u v) (steps : List Step) (n : ℕ) (told : List (Result (Unit {0}) Refusal)) (within : n < length steps)
-    (far : IsRun (simulation u.case) steps n (core u) (core v) told) where
-  pub one_done : (d : Step) → step (simulation v.case) (core v) (get_or steps n d) ≡ Ok (core w) → IsRun (simulation u.case) steps (n + 1) (core u) (core w) (told ++ Ok tt ∷ [])
+module _ (u v w : Warp) (same : HasSameSettings u v) (steps : List Step) (n : ℕ) (told : List (Result (Unit {0}) Refusal)) (within : n < length steps)
+    (far : IsRun (simulation u.case) steps n (warp_core u) (warp_core v) told) where
+  pub one_done : (d : Step) → step (simulation v.case) (warp_core v) (get_or steps n d) ≡ Ok (warp_core w) → IsRun (simulation u.case) steps (n + 1) (warp_core u) (warp_core w) (told ++ Ok tt ∷ [])
   one_done d did =
-      run_done (simulation u.case) steps n (core u) (core v) (core w) told d within far (subst (λ case. step (simulation case) (core v) (get_or steps n d) ≡ Ok (core w)) same.case did)
+      run_done (simulation u.case) steps n (warp_core u) (warp_core v) (warp_core w) told d within far (subst (λ case. step (simulation case) (warp_core v) (get_or steps n d) ≡ Ok (warp_core w)) same.case did)
 
-  pub one_refused : (d : Step) (f : Refusal) → w ≡ v → step (simulation v.case) (core v) (get_or steps n d) ≡ Err f → IsRun (simulation u.case) steps (n + 1) (core u) (core w) (told ++ Err f ∷ [])
+  pub one_refused : (d : Step) (f : Refusal) → w ≡ v → step (simulation v.case) (warp_core v) (get_or steps n d) ≡ Err f → IsRun (simulation u.case) steps (n + 1) (warp_core u) (warp_core w) (told ++ Err f ∷ [])
   one_refused d f stays refused =
-      subst (λ w. IsRun (simulation u.case) steps (n + 1) (core u) (core w) (told ++ Err f ∷ [])) (sym stays)
-      (run_refused (simulation u.case) steps n (core u) (core v) told d f within far (subst (λ case. step (simulation case) (core v) (get_or steps n d) ≡ Err f) same.case refused))
+      subst (λ w. IsRun (simulation u.case) steps (n + 1) (warp_core u) (warp_core w) (told ++ Err f ∷ [])) (sym stays)
+      (run_refused (simulation u.case) steps n (warp_core u) (warp_core v) told d f within far (subst (λ case. step (simulation case) (warp_core v) (get_or steps n d) ≡ Err f) same.case refused))
 
   pub one_cut : (d : Step) (fault : RunFault) → fault.step ≡ n + 1 → fault.answers.items ≡ told
-      → ((f : Refusal) → step (simulation v.case) (core v) (get_or steps n d) ≡ Err f → ⊥) → IsInterrupted (simulation v.case) (get_or steps n d) (core v) (core w)
-      → IsBrokenOff (simulation u.case) steps fault (core u) (core w)
+      → ((f : Refusal) → step (simulation v.case) (warp_core v) (get_or steps n d) ≡ Err f → ⊥) → IsInterrupted (simulation v.case) (get_or steps n d) (warp_core v) (warp_core w)
+      → IsBrokenOff (simulation u.case) steps fault (warp_core u) (warp_core w)
   one_cut d fault number before none left =
-      broken_off (simulation u.case) steps n (core u) (core v) (core w) told fault d within far number before
-      (subst (λ case. (f : Refusal) → step (simulation case) (core v) (get_or steps n d) ≡ Err f → ⊥) same.case none)
-      (subst (λ case. IsInterrupted (simulation case) (get_or steps n d) (core v) (core w)) same.case left)
+      broken_off (simulation u.case) steps n (warp_core u) (warp_core v) (warp_core w) told fault d within far number before
+      (subst (λ case. (f : Refusal) → step (simulation case) (warp_core v) (get_or steps n d) ≡ Err f → ⊥) same.case none)
+      (subst (λ case. IsInterrupted (simulation case) (get_or steps n d) (warp_core v) (warp_core w)) same.case left)

@@ -14,7 +14,7 @@ use Rattle.tw_sim.specs.Simulation.{Simulation, IsLawful, below, times}
 use Rattle.tw_warp.proofs.Dealt.{together}
 use Rattle.tw_warp.proofs.Turns.{seq_of}
 use Rattle.tw_warp.specs.Committed.{committed_events}
-use Rattle.tw_warp.specs.Warp.{IsWarp, Warp, core}
+use Rattle.tw_warp.specs.Warp.{IsWarp, Warp, warp_core}
 
 module _ {S E : Type 0} (m : Simulation S E) (law : IsLawful m) where
   -- two times that part a list in the same way
@@ -28,26 +28,26 @@ module _ {S E : Type 0} (m : Simulation S E) (law : IsLawful m) where
         | inr late ↦ rw (first ∙ late, late) rest
       ]
 
-module _ (w : Warp) (is : IsWarp w) (all : AreCommitted (simulation w.case) (core w)) where
+module _ (w : Warp) (is : IsWarp w) (all : AreCommitted (simulation w.case) (warp_core w)) where
   abbrev m : Simulation State Event
   m = simulation w.case
 
   -- what a router has committed is what it has handled below the bound
-  committed_below : (r : ℕ) → committed m (core w) r ≡ below m w.bound ((core w).history r)
+  committed_below : (r : ℕ) → committed m (warp_core w) r ≡ below m w.bound ((warp_core w).history r)
   committed_below r =
-      same_below m (lawful w.case is.case) ((core w).done r) w.bound ((core w).history r) (λ e there.
+      same_below m (lawful w.case is.case) ((warp_core w).done r) w.bound ((warp_core w).history r) (λ e there.
       let home : e.dst ≡ r = is.good.home r e there in
-      let handled = ap (λ q. times m e ((core w).history q)) home in
-      let known = ap (λ q. (core w).done q) home in
+      let handled = ap (λ q. times m e ((warp_core w).history q)) home in
+      let known = ap (λ q. (warp_core w).done q) home in
       let most = is.good.done r in
       elim (cases_Bool (nat_lt e.time w.bound)) [
-        | inl early ↦ (let before = all e (omega arith) (ltb-true e.time w.bound early) in lt-ltb e.time ((core w).done r) (omega arith) ∙ sym early)
-        | inr late ↦ (let past = ltb-false e.time w.bound late in le-ltb e.time ((core w).done r) (omega arith) ∙ sym late)
+        | inl early ↦ (let before = all e (omega arith) (ltb-true e.time w.bound early) in lt-ltb e.time ((warp_core w).done r) (omega arith) ∙ sym early)
+        | inr late ↦ (let past = ltb-false e.time w.bound late in le-ltb e.time ((warp_core w).done r) (omega arith) ∙ sym late)
       ])
 
   pub are_run : committed_events w ≡ reverse (log m w.bound)
   are_run =
       let law = lawful w.case is.case in
-      together m law (log m w.bound) (log_closed m law (numbered w.case is.case) w.bound).falling (λ r. below m w.bound ((core w).history r)) (seq_of w is).handled
-      (λ e there. is.good.suit e (let handled = (in_filter m law (λ x. nat_lt x.time w.bound) e ((core w).history e.dst) there).1 in omega arith))
-      (λ r. committed m (core w) r) (λ r l. committed_below r)
+      together m law (log m w.bound) (log_closed m law (numbered w.case is.case) w.bound).falling (λ r. below m w.bound ((warp_core w).history r)) (seq_of w is).handled
+      (λ e there. is.good.suit e (let handled = (in_filter m law (λ x. nat_lt x.time w.bound) e ((warp_core w).history e.dst) there).1 in omega arith))
+      (λ r. committed m (warp_core w) r) (λ r l. committed_below r)

@@ -20,17 +20,17 @@ use Rattle.tw_model.specs.Case.{simulation}
 use Rattle.tw_model.specs.declared.limits.TheConstants.{LATEST}
 use Rattle.tw_model.proofs.Lawful.{lawful, numbered}
 use Rattle.tw_shard.specs.Commit.{committing}
-use Rattle.tw_shard.specs.Shard.{IsSameShare, Shard, handling, owns, releasing, undoing, widening}
+use Rattle.tw_shard.specs.Shard.{IsSameShare, Shard, handling, owns, releasing, shard_core, undoing, widening}
 use Rattle.tw_shard.specs.Shard as share
 use Rattle.tw_sim.specs.declared.machine.Signed.{Signed}
 use Rattle.tw_sim.specs.declared.machine.Step.{Step}
 use Rattle.tw_sim.specs.Rising.{IsRising}
 use Rattle.tw_sim.specs.Simulation.{IsLawful, Simulation}
 use Rattle.tw_sim.specs.declared.machine.Step.TheVariants.{Commit, Handle, Release, Undo}
-use Rattle.tw_warp.specs.Calls.{calling, outcome_of}
+use Rattle.tw_warp.specs.Calls.{after_call, calling}
 use Rattle.tw_warp.specs.declared.calls.RouterCall.{RouterCall}
 use Rattle.tw_warp.specs.declared.calls.RouterCall.TheVariants as calls
-use Rattle.tw_warp.specs.Warp.{IsWarp, Warp, behind, core, lent, no_shard, shard_at, worker_of}
+use Rattle.tw_warp.specs.Warp.{IsWarp, Warp, behind, lent, no_shard, shard_at, warp_core, worker_with}
 use Rattle.tw_warp.proofs.Held.{rising_handle, rising_release, rising_undo}
 use Rattle.tw_warp.proofs.Joined.{rest, set_same, with_shard}
 use Rattle.tw_warp.proofs.Moves.{commit_step, given_back, handle_step, later, law, next_is, own_lent, part, release_step, undo_step, widen_step}
@@ -42,7 +42,7 @@ pub record IsCalled (w : Warp) (k : ℕ) (t : Shard) : Type 0 where
   pub bound : t.bound ≡ w.bound
   -- what is held is in order
   pub held : IsRising event_before event_same t.held
-  pub own : IsOwn (simulation w.case) (λ r. worker_of w r == k) (share.core w.stop t)
+  pub own : IsOwn (simulation w.case) (λ r. worker_with w r == k) (shard_core w.stop t)
 
 -- what is refused at the part is what is refused
 pub lift_err : {S : Type 0} (m : Simulation S Event) (X : Rest Event) (o : Result (Core Event) Refusal) (f : Refusal) → lift m X o ≡ Err f → o ≡ Err f
@@ -69,14 +69,14 @@ widen_good m law C r good = record { part = (widen_keeps m law C.bound C r good.
 
 module _ (w : Warp) (is : IsWarp w) (k : ℕ) (within : k < length w.shards) where
   -- a call that was made leaves the machine good, and it counts right
-  pub done : (t : Shard) → IsCalled w k t → IsGood (simulation w.case) (core (given_back w k t)) → AreCounted (simulation w.case) (core (given_back w k t)) → IsWarp (given_back w k t)
+  pub done : (t : Shard) → IsCalled w k t → IsGood (simulation w.case) (warp_core (given_back w k t)) → AreCounted (simulation w.case) (warp_core (given_back w k t)) → IsWarp (given_back w k t)
   done t called good counted = next_is w is k t t.outgoing within called.same called.bound called.held called.own good counted
 
-  pub handled : (t : Shard) (r : ℕ) → IsSameShare (shard_at w k) t → handling w.stop (lent w k) r ≡ Ok (share.core w.stop t) → IsCalled w k t
+  pub handled : (t : Shard) (r : ℕ) → IsSameShare (shard_at w k) t → handling w.stop (lent w k) r ≡ Ok (shard_core w.stop t) → IsCalled w k t
   handled t r same went =
       let m = simulation w.case in
-      let C = share.core w.stop (lent w k) in
-      let D = share.core w.stop t in
+      let C = shard_core w.stop (lent w k) in
+      let D = shard_core w.stop t in
       let did : handle m C r (first_pending m C r) ≡ Ok D =
       own_outcome (lent w k) r (handle m C r (first_pending m C r)) D
       (ap (λ case. share.at_own (lent w k) r (handle (simulation case) C r (first_pending (simulation case) C r))) (sym (is.shares k within).case) ∙ went) in
@@ -84,14 +84,14 @@ module _ (w : Warp) (is : IsWarp w) (k : ℕ) (within : k < length w.shards) whe
         same = same;
         bound = (handle_keeps m (law w is) w.bound C D r (part w is k within) did).bound ∙ (is.shares k within).bound;
         held = rising_handle m (law w is) C D r (is.shares k within).held did;
-        own = own_handle m (law w is) (λ r. worker_of w r == k) C D r (own_lent w is k within) did;
+        own = own_handle m (law w is) (λ r. worker_with w r == k) C D r (own_lent w is k within) did;
       }
 
-  pub undone : (t : Shard) (r : ℕ) → IsSameShare (shard_at w k) t → undoing w.stop (lent w k) r ≡ Ok (share.core w.stop t) → IsCalled w k t
+  pub undone : (t : Shard) (r : ℕ) → IsSameShare (shard_at w k) t → undoing w.stop (lent w k) r ≡ Ok (shard_core w.stop t) → IsCalled w k t
   undone t r same went =
       let m = simulation w.case in
-      let C = share.core w.stop (lent w k) in
-      let D = share.core w.stop t in
+      let C = shard_core w.stop (lent w k) in
+      let D = shard_core w.stop t in
       let did : undo m C r (C.history r) ≡ Ok D =
       own_outcome (lent w k) r (undo m C r (C.history r)) D
       (ap (λ case. share.at_own (lent w k) r (undo (simulation case) C r (C.history r))) (sym (is.shares k within).case) ∙ went) in
@@ -100,14 +100,14 @@ module _ (w : Warp) (is : IsWarp w) (k : ℕ) (within : k < length w.shards) whe
         same = same;
         bound = (undo_keeps m (law w is) w.bound C D r (omega arith) (part w is k within) did).bound ∙ bound;
         held = rising_undo m (law w is) C D r (is.shares k within).held did;
-        own = own_undo m (law w is) (λ r. worker_of w r == k) w.bound C D r (part w is k within) (own_lent w is k within) did;
+        own = own_undo m (law w is) (λ r. worker_with w r == k) w.bound C D r (part w is k within) (own_lent w is k within) did;
       }
 
-  pub commits : (t : Shard) (r : ℕ) → IsSameShare (shard_at w k) t → committing w.stop (lent w k) r ≡ Ok (share.core w.stop t) → IsCalled w k t
+  pub commits : (t : Shard) (r : ℕ) → IsSameShare (shard_at w k) t → committing w.stop (lent w k) r ≡ Ok (shard_core w.stop t) → IsCalled w k t
   commits t r same went =
       let m = simulation w.case in
-      let C = share.core w.stop (lent w k) in
-      let D = share.core w.stop t in
+      let C = shard_core w.stop (lent w k) in
+      let D = shard_core w.stop t in
       let did : ◌≡◌ {A = Result (Core Event) Refusal} (Ok (with_commit m C r)) (Ok D) =
       own_outcome (lent w k) r (Ok (with_commit m C r)) D
       (ap (λ case. share.at_own (lent w k) r (Ok (with_commit (simulation case) C r))) (sym (is.shares k within).case) ∙ went) in
@@ -117,14 +117,14 @@ module _ (w : Warp) (is : IsWarp w) (k : ℕ) (within : k < length w.shards) whe
         same = same;
         bound = sym (ap (λ (D : Core Event). D.bound) reached) ∙ (is.shares k within).bound;
         held = subst (λ (D : Core Event). IsRising event_before event_same D.held) reached (is.shares k within).held;
-        own = subst (IsOwn m (λ r. worker_of w r == k)) reached (record { history = own.history; waiting = own.waiting; held = own.held });
+        own = subst (IsOwn m (λ r. worker_with w r == k)) reached (record { history = own.history; waiting = own.waiting; held = own.held });
       }
 
-  pub releases : (t : Shard) (r : ℕ) → IsSameShare (shard_at w k) t → releasing w.stop (lent w k) r ≡ Ok (share.core w.stop t) → IsCalled w k t
+  pub releases : (t : Shard) (r : ℕ) → IsSameShare (shard_at w k) t → releasing w.stop (lent w k) r ≡ Ok (shard_core w.stop t) → IsCalled w k t
   releases t r same went =
       let m = simulation w.case in
-      let C = share.core w.stop (lent w k) in
-      let D = share.core w.stop t in
+      let C = shard_core w.stop (lent w k) in
+      let D = shard_core w.stop t in
       let did : ◌≡◌ {A = Result (Core Event) Refusal} (Ok (with_release m C r)) (Ok D) =
       own_outcome (lent w k) r (Ok (with_release m C r)) D
       (ap (λ case. share.at_own (lent w k) r (Ok (with_release (simulation case) C r))) (sym (is.shares k within).case) ∙ went) in
@@ -133,14 +133,14 @@ module _ (w : Warp) (is : IsWarp w) (k : ℕ) (within : k < length w.shards) whe
         same = same;
         bound = sym (ap (λ (D : Core Event). D.bound) reached) ∙ (is.shares k within).bound;
         held = subst (λ (D : Core Event). IsRising event_before event_same D.held) reached (rising_release m (law w is) C r (is.shares k within).held);
-        own = subst (IsOwn m (λ r. worker_of w r == k)) reached (own_release m (law w is) (λ r. worker_of w r == k) C r (own_lent w is k within));
+        own = subst (IsOwn m (λ r. worker_with w r == k)) reached (own_release m (law w is) (λ r. worker_with w r == k) C r (own_lent w is k within));
       }
 
-  pub widens : (t : Shard) (r : ℕ) → IsSameShare (shard_at w k) t → widening w.stop (lent w k) r ≡ Ok (share.core w.stop t) → IsCalled w k t
+  pub widens : (t : Shard) (r : ℕ) → IsSameShare (shard_at w k) t → widening w.stop (lent w k) r ≡ Ok (shard_core w.stop t) → IsCalled w k t
   widens t r same went =
       let m = simulation w.case in
-      let C = share.core w.stop (lent w k) in
-      let D = share.core w.stop t in
+      let C = shard_core w.stop (lent w k) in
+      let D = shard_core w.stop t in
       let did : ◌≡◌ {A = Result (Core Event) Refusal} (Ok (with_room m C r)) (Ok D) =
       own_outcome (lent w k) r (Ok (with_room m C r)) D
       (ap (λ case. share.at_own (lent w k) r (Ok (with_room (simulation case) C r))) (sym (is.shares k within).case) ∙ went) in
@@ -150,7 +150,7 @@ module _ (w : Warp) (is : IsWarp w) (k : ℕ) (within : k < length w.shards) whe
         same = same;
         bound = sym (ap (λ (D : Core Event). D.bound) reached) ∙ (is.shares k within).bound;
         held = subst (λ (D : Core Event). IsRising event_before event_same D.held) reached (is.shares k within).held;
-        own = subst (IsOwn m (λ r. worker_of w r == k)) reached (record { history = own.history; waiting = own.waiting; held = own.held });
+        own = subst (IsOwn m (λ r. worker_with w r == k)) reached (record { history = own.history; waiting = own.waiting; held = own.held });
       }
 
   -- the shard as it comes back, and the messages on their way
@@ -170,20 +170,20 @@ any_default (x ∷ xs) (suc k) a b within = any_default xs k a b (omega arith)
 -- what a turn at worker k's shard gives, with the shard and the messages on their way as they came back
 pub record IsTurned (w : Warp) (k : ℕ) (make : Core Event → Result (Core Event) Refusal) (s : Shard) (flight : List (Signed Event)) (result : Result (Unit {0}) (OrMemory Refusal)) : Type 0 where
   pub is : IsWarp (with_shard w k s flight)
-  pub ok : OnOk result (make (core w) ≡ Ok (core (with_shard w k s flight)))
-  pub refused : (f : Refusal) → IsErrOf result (or_memory.Fault f) ↔ (make (core w) ≡ Err f)
+  pub ok : OnOk result (make (warp_core w) ≡ Ok (warp_core (with_shard w k s flight)))
+  pub refused : (f : Refusal) → IsErrOf result (or_memory.Fault f) ↔ (make (warp_core w) ≡ Err f)
 
 module _ (w : Warp) (is : IsWarp w) (k : ℕ) (within : k < length w.shards) where
   -- the outcome of a call at the part is what it makes of the machine, which stays good and counts right
   pub record IsOutcome (make : Core Event → Result (Core Event) Refusal) (outcome : Result (Core Event) Refusal) : Type 0 where
-    pub made : make (core w) ≡ lift (simulation w.case) (rest w k) outcome
-    pub good : (D : Core Event) → make (core w) ≡ Ok D → IsGood (simulation w.case) D
-    pub counted : (D : Core Event) → make (core w) ≡ Ok D → AreCounted (simulation w.case) D
-    pub called : (t : Shard) → IsSameShare (shard_at w k) t → outcome ≡ Ok (share.core w.stop t) → IsCalled w k t
+    pub made : make (warp_core w) ≡ lift (simulation w.case) (rest w k) outcome
+    pub good : (D : Core Event) → make (warp_core w) ≡ Ok D → IsGood (simulation w.case) D
+    pub counted : (D : Core Event) → make (warp_core w) ≡ Ok D → AreCounted (simulation w.case) D
+    pub called : (t : Shard) → IsSameShare (shard_at w k) t → outcome ≡ Ok (shard_core w.stop t) → IsCalled w k t
 
   -- the shard and the messages on their way after such a call at a shard
   pub record IsBack (call : Shard → Result (Core Event) Refusal) (at s : Shard) (flight : List (Signed Event)) (result : Result (Unit {0}) (OrMemory Refusal)) : Type 0 where
-    pub ok : OnOk result (call (behind at w.flight) ≡ Ok (share.core w.stop (behind s flight)))
+    pub ok : OnOk result (call (behind at w.flight) ≡ Ok (shard_core w.stop (behind s flight)))
     pub refused : (f : Refusal) → IsErrOf result (or_memory.Fault f) ↔ (call (behind at w.flight) ≡ Err f)
     pub err : OnErr result (s ≡ at)
     pub unsent : OnErr result (flight ≡ w.flight)
@@ -208,9 +208,9 @@ module _ (w : Warp) (is : IsWarp w) (k : ℕ) (within : k < length w.shards) whe
     none = back.outgoing ∙ (is.shares k within).outgoing
 
     here : IsSameShare (shard_at w k) s → IsSameShare (shard_at w k) (behind s flight)
-    here same = record { case = same.case; worker = same.worker; workers = same.workers; routers = same.routers; keeps = same.keeps; cancel = same.cancel }
+    here same = record { case = same.case; worker = same.worker; workers = same.workers; routers = same.routers; retains = same.retains; cancel = same.cancel }
 
-    did : IsSameShare (shard_at w k) s → call (lent w k) ≡ Ok (share.core w.stop (behind s flight)) → make (core w) ≡ Ok (core (given_back w k (behind s flight)))
+    did : IsSameShare (shard_at w k) s → call (lent w k) ≡ Ok (shard_core w.stop (behind s flight)) → make (warp_core w) ≡ Ok (warp_core (given_back w k (behind s flight)))
     did same ok =
         outcome.made
         ∙ (ap (lift (simulation w.case) (rest w k)) ok
@@ -219,36 +219,36 @@ module _ (w : Warp) (is : IsWarp w) (k : ℕ) (within : k < length w.shards) whe
     go : (result : Result (Unit {0}) (OrMemory Refusal)) → IsBack call (shard_at w k) s flight result → IsWarp (with_shard w k s flight)
     go (Ok u) back = subst IsWarp (sym (back_again w is k within s flight none))
         (done w is k within (behind s flight) (outcome.called (behind s flight) (here back.same) back.ok)
-        (outcome.good (core (given_back w k (behind s flight))) (did back.same back.ok))
-        (outcome.counted (core (given_back w k (behind s flight))) (did back.same back.ok)))
+        (outcome.good (warp_core (given_back w k (behind s flight))) (did back.same back.ok))
+        (outcome.counted (warp_core (given_back w k (behind s flight))) (did back.same back.ok)))
     go (Err e) back = subst IsWarp (sym (same_again w is k within s flight back.err back.unsent)) is
 
-    went : (result : Result (Unit {0}) (OrMemory Refusal)) → IsBack call (shard_at w k) s flight result → OnOk result (make (core w) ≡ Ok (core (with_shard w k s flight)))
-    went (Ok u) back = did back.same back.ok ∙ ap (λ v. Ok (core v)) (sym (back_again w is k within s flight none))
+    went : (result : Result (Unit {0}) (OrMemory Refusal)) → IsBack call (shard_at w k) s flight result → OnOk result (make (warp_core w) ≡ Ok (warp_core (with_shard w k s flight)))
+    went (Ok u) back = did back.same back.ok ∙ ap (λ v. Ok (warp_core v)) (sym (back_again w is k within s flight none))
     went (Err e) back = tt
 
   -- what a step makes is good, and it counts right
-  steps_on : (x : Step) (outcome : Result (Core Event) Refusal) → step (simulation w.case) (core w) x ≡ lift (simulation w.case) (rest w k) outcome
-      → ((t : Shard) → IsSameShare (shard_at w k) t → outcome ≡ Ok (share.core w.stop t) → IsCalled w k t) → IsOutcome (λ C. step (simulation w.case) C x) outcome
+  steps_on : (x : Step) (outcome : Result (Core Event) Refusal) → step (simulation w.case) (warp_core w) x ≡ lift (simulation w.case) (rest w k) outcome
+      → ((t : Shard) → IsSameShare (shard_at w k) t → outcome ≡ Ok (shard_core w.stop t) → IsCalled w k t) → IsOutcome (λ C. step (simulation w.case) C x) outcome
   steps_on x outcome made called = record {
     made = made;
-    good = λ D did. (step_keeps (simulation w.case) (law w is) (core w) D x is.good did).good;
-    counted = λ D did. step_counted (simulation w.case) (law w is) (numbered w.case is.case) (core w) D x is.good did is.counted;
+    good = λ D did. (step_keeps (simulation w.case) (law w is) (warp_core w) D x is.good did).good;
+    counted = λ D did. step_counted (simulation w.case) (law w is) (numbered w.case is.case) (warp_core w) D x is.good did is.counted;
     called = called;
   }
 
   -- and so is a machine with more room
-  widen_outcome : (r : ℕ) → worker_of w r ≡ k → IsOutcome (outcome_of (simulation w.case) calls.Widen r) (widening w.stop (lent w k) r)
+  widen_outcome : (r : ℕ) → worker_with w r ≡ k → IsOutcome (after_call (simulation w.case) calls.Widen r) (widening w.stop (lent w k) r)
   widen_outcome r mine =
       let m = simulation w.case in
       record {
         made = widen_step w is k within r mine;
-        good = λ D did. subst (IsGood m) (at_router_done m r (Ok (with_room m (core w) r)) (with_room m (core w) r) D refl did) (widen_good m (law w is) (core w) r is.good);
-        counted = λ D did. subst (AreCounted m) (at_router_done m r (Ok (with_room m (core w) r)) (with_room m (core w) r) D refl did) is.counted;
+        good = λ D did. subst (IsGood m) (at_router_done m r (Ok (with_room m (warp_core w) r)) (with_room m (warp_core w) r) D refl did) (widen_good m (law w is) (warp_core w) r is.good);
+        counted = λ D did. subst (AreCounted m) (at_router_done m r (Ok (with_room m (warp_core w) r)) (with_room m (warp_core w) r) D refl did) is.counted;
         called = λ t same went. widens w is k within t r same went;
       }
 
-  pub call_outcome : (call : RouterCall) (r : ℕ) → worker_of w r ≡ k → IsOutcome (outcome_of (simulation w.case) call r) (calling call w.stop (lent w k) r)
+  pub call_outcome : (call : RouterCall) (r : ℕ) → worker_with w r ≡ k → IsOutcome (after_call (simulation w.case) call r) (calling call w.stop (lent w k) r)
   call_outcome calls.Handle r mine = steps_on (Handle r) (handling w.stop (lent w k) r) (handle_step w is k within r mine) (λ t same went. handled w is k within t r same went)
   call_outcome calls.Undo r mine = steps_on (Undo r) (undoing w.stop (lent w k) r) (undo_step w is k within r mine) (λ t same went. undone w is k within t r same went)
   call_outcome calls.Commit r mine = steps_on (Commit r) (committing w.stop (lent w k) r) (commit_step w is k within r mine) (λ t same went. commits w is k within t r same went)
@@ -256,15 +256,15 @@ module _ (w : Warp) (is : IsWarp w) (k : ℕ) (within : k < length w.shards) whe
   call_outcome calls.Widen r mine = widen_outcome r mine
 
 -- the worker of a router, as the code finds it
-pub worker_there : (w v : Warp) (r k : ℕ) → w ≡ v → k ≡ worker_of v r → worker_of w r ≡ k
-worker_there w v r k is at = ap (λ u. worker_of u r) is ∙ sym at
+pub worker_there : (w v : Warp) (r k : ℕ) → w ≡ v → k ≡ worker_with v r → worker_with w r ≡ k
+worker_there w v r k is at = ap (λ u. worker_with u r) is ∙ sym at
 
 pub within_there : (w v : Warp) (k : ℕ) → w ≡ v → k < length v.shards → k < length w.shards
 within_there w v k is h = subst (λ u. k < length u.shards) (sym is) h
 
 -- a machine is the one-thread run as far as it is committed
-pub seq_of : (w : Warp) → IsWarp w → IsSeq (simulation w.case) (core w)
-seq_of w is = good_is_seq (simulation w.case) (lawful w.case is.case) (numbered w.case is.case) (core w) is.good
+pub seq_of : (w : Warp) → IsWarp w → IsSeq (simulation w.case) (warp_core w)
+seq_of w is = good_is_seq (simulation w.case) (lawful w.case is.case) (numbered w.case is.case) (warp_core w) is.good
 
 -- a machine with a later stop is one
 pub later_stop : (w : Warp) (stop : ℕ) → IsWarp w → w.stop ≤ stop → stop ≤ LATEST → IsWarp (record w { stop = stop })
@@ -276,13 +276,13 @@ later_stop w stop is rises most = record {
     worker = old.worker;
     routers = old.routers;
     bound = old.bound;
-    keeps = old.keeps;
+    retains = old.retains;
     cancel = old.cancel;
     outgoing = old.outgoing;
     held = old.held;
     own = record { history = old.own.history; waiting = old.own.waiting; held = old.own.held };
   });
-  good = good_further (simulation w.case) (law w is) (core w) stop rises is.good;
+  good = good_further (simulation w.case) (law w is) (warp_core w) stop rises is.good;
   counted = is.counted;
   stop = most;
 }

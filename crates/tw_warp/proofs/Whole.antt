@@ -7,18 +7,13 @@ use Rattle.tw_core.specs.declared.refusal.Refusal.{Refusal}
 use Rattle.tw_core.specs.declared.refusal.Refusal.TheVariants.{Nothing, Double, AheadFull, CounterFull}
 use Rattle.tw_core.specs.Good.{IsGoodPart}
 use Rattle.tw_core.specs.Machine.{Core, count_ahead}
-use Rattle.tw_core.specs.Steps.{after_antimessage, after_arrival, after_handling, after_message, after_undoing, after_undoing_while, antimessage, first_pending, from, from_others, handle, held_back, is_newest, message, put, sent_back, still_held, take_out, to_send, undo, with_commit, with_pending, with_release, with_room, without_from, without_later, without_pending}
-use Rattle.tw_sim.specs.declared.machine.Cancel.{Cancel}
-use Rattle.tw_sim.specs.declared.machine.Cancel.TheVariants.{Aggressive, Lazy}
+use Rattle.tw_core.specs.Steps.{after_antimessage, after_arrival, after_handling, after_message, after_undoing, after_undoing_while, antimessage, first_pending, from, handle, is_newest, message, put, sent_back, still_held, to_send, undo, with_commit, with_pending, with_release, with_room, without_from, without_later, without_pending}
 use Rattle.tw_sim.specs.declared.machine.Signed.{Signed}
-use Rattle.tw_sim.specs.Ordered.{least}
-use Rattle.tw_sim.specs.Seq.{insert, insert_all}
 use Rattle.tw_sim.specs.Simulation.{Simulation, IsFalling, IsLawful, only, state, times}
-use Rattle.tw_sim.proofs.Counts.{in_filter, in_head, none, times-append, times-filter-no, times-filter-yes, times-insert, times-insert_all, times-take_out, times-take_out-le}
+use Rattle.tw_sim.proofs.Counts.{in_filter, none, times-append, times-filter-no, times-filter-yes}
 use Rattle.tw_sim.proofs.Least.{least_is}
-use Rattle.tw_sim.proofs.Ordered as plain
-use Rattle.tw_sim.proofs.Counts.{is_order}
-use Rattle.tw_sim.proofs.Rising.{IsRising, rising-filter, rising-insert_all, same_rising}
+use Rattle.tw_sim.proofs.Rising.{IsRising}
+use Rattle.tw_warp.proofs.InOrder.{AreNotHeld, count_part, from_others_part, from_part, held_back_part, in_order, insert_part, same_least, still_held_part, take_part, times-in_order, to_send_part}
 
 -- the rest of a machine
 pub record Rest (E : Type 0) : Type 0 where
@@ -42,18 +37,14 @@ put_within mine f g r a own =
     ])
 
 module _ {S E : Type 0} (m : Simulation S E) where
-  -- a list in order
-  abbrev pub in_order : List E → List E
-  in_order xs = insert_all m xs []
-
   -- the part and the rest as one machine
   abbrev pub whole : Rest E → Core E → Core E
   whole X C = record {
     history = λ r. cond (X.mine r) (C.history r) (X.history r);
-    pending = in_order (X.pending ++ C.pending);
-    kept = in_order (X.kept ++ C.kept);
+    pending = in_order m (X.pending ++ C.pending);
+    kept = in_order m (X.kept ++ C.kept);
     flight = C.flight;
-    held = in_order (X.held ++ C.held);
+    held = in_order m (X.held ++ C.held);
     done = λ r. cond (X.mine r) (C.done r) (X.done r);
     past = λ r. cond (X.mine r) (C.past r) (X.past r);
     room = λ r. cond (X.mine r) (C.room r) (X.room r);
@@ -73,381 +64,192 @@ module _ {S E : Type 0} (m : Simulation S E) where
   lift X (Ok D) = Ok (whole X D)
   lift X (Err f) = Err f
 
-  module _ (law : IsLawful m) where
-    pub times-in_order : (e : E) (xs : List E) → times m e (in_order xs) ≡ times m e xs
-    times-in_order e xs = let k = times-insert_all m e xs [] in omega arith
+  module _ (law : IsLawful m) (X : Rest E) (apart : IsApart X) where
+    pub same_history : (C : Core E) (r : ℕ) → X.mine r ≡ true → (whole X C).history r ≡ C.history r
+    same_history C r own = rw own refl
 
-    pub rising-in_order : (xs : List E) → IsRising m (in_order xs)
-    rising-in_order xs = rising-insert_all m law xs [] tt
+    same_done : (C : Core E) (r : ℕ) → X.mine r ≡ true → (whole X C).done r ≡ C.done r
+    same_done C r own = rw own refl
 
-    -- lists in which each event stands as often are one in order
-    pub same_order : (xs ys : List E) → ((e : E) → times m e xs ≡ times m e ys) → in_order xs ≡ in_order ys
-    same_order xs ys h = same_rising m law (in_order xs) (in_order ys) (rising-in_order xs) (rising-in_order ys)
-        (λ e. times-in_order e xs ∙ (h e ∙ sym (times-in_order e ys)))
+    same_ahead : (C : Core E) (r : ℕ) → X.mine r ≡ true → count_ahead (whole X C) r ≡ count_ahead C r
+    same_ahead C r own = rw own refl
 
-    pub rising-take_out : (e : E) (xs : List E) → IsRising m xs → IsRising m (take_out m e xs)
-    rising-take_out e [] r = tt
-    rising-take_out e (x ∷ xs) r =
-        elim (cases_Bool (m.same e x)) [
-          | inl same ↦ rw same r.1
-          | inr other ↦ rw other ((λ y h. r.0 y (let le = times-take_out-le m y e xs in omega arith)), rising-take_out e xs r.1)
+    -- what is held for one of the part's routers
+    pub held_at : (C : Core E) (r : ℕ) → X.mine r ≡ true → IsRising m C.held → from m r (whole X C).held ≡ from m r C.held
+    held_at C r own rising = from_part m law r X.held C.held (λ e here. apart.held e (ap X.mine (eqb-true (m.src e) r here) ∙ own)) rising
+
+    same_room : (C : Core E) (r : ℕ) → X.mine r ≡ true → (whole X C).room r ≡ C.room r
+    same_room C r own = rw own refl
+
+    -- what one of the part's routers sends is not held for the rest
+    sends_apart : (s : S) (e : E) → X.mine (m.dst e) ≡ true → AreNotHeld m (m.sends s e) X.held
+    sends_apart s e own = λ x h. apart.held x (ap X.mine (law.sender s e x h) ∙ own)
+
+    own_apart : (r : ℕ) → X.mine r ≡ true → (e : E) → (m.src e == r) ≡ true → times m e X.held ≡ 0
+    own_apart r own e here = apart.held e (ap X.mine (eqb-true (m.src e) r here) ∙ own)
+
+    -- ---- what steps leave
+
+    pub handling_whole : (C : Core E) (r : ℕ) (e : E) → X.mine r ≡ true → m.dst e ≡ r → after_handling m (whole X C) r e ≡ whole X (after_handling m C r e)
+    handling_whole C r e own home =
+        let here = same_history C r own in
+        let none = apart.pending e (ap X.mine home ∙ own) in
+        let sends = m.sends (state m r (C.history r)) e in
+        let sent_apart = sends_apart (state m r (C.history r)) e (ap X.mine home ∙ own) in
+        let known : m.sends (state m r ((whole X C).history r)) e ≡ sends = ap (λ h. m.sends (state m r h) e) here in
+        λ i. record {
+          history = (ap (λ h. put (whole X C).history r (e ∷ h)) here ∙ sym (put_within X.mine C.history X.history r (e ∷ C.history r) own)) i;
+          pending = take_part m law e X.pending C.pending none i;
+          kept = in_order m (X.kept ++ C.kept);
+          flight = C.flight ++ map message ((ap (λ xs. to_send m xs (in_order m (X.held ++ C.held))) known ∙ to_send_part m law sends X.held C.held sent_apart) i);
+          held = (ap (λ xs. still_held m xs (in_order m (X.held ++ C.held))) known ∙ still_held_part m law sends X.held C.held sent_apart) i;
+          done = (whole X C).done;
+          past = (whole X C).past;
+          room = (whole X C).room;
+          bound = C.bound;
+          stop = C.stop;
+          cancel = C.cancel;
+        }
+
+    pub undoing_whole : (C : Core E) (r : ℕ) (e : E) (older : List E) → X.mine r ≡ true → after_undoing m (whole X C) r e older ≡ whole X (after_undoing m C r e older)
+    undoing_whole C r e older own = λ i. record {
+      history = sym (put_within X.mine C.history X.history r older own) i;
+      pending = insert_part m law e X.pending C.pending i;
+      kept = in_order m (X.kept ++ C.kept);
+      flight = C.flight ++ sent_back m C.cancel (m.sends (state m r older) e);
+      held = held_back_part m law C.cancel (m.sends (state m r older) e) X.held C.held i;
+      done = (whole X C).done;
+      past = (whole X C).past;
+      room = (whole X C).room;
+      bound = C.bound;
+      stop = C.stop;
+      cancel = C.cancel;
+    }
+
+    while_whole : (test : E → Bool) (r : ℕ) (xs : List E) (C : Core E) → X.mine r ≡ true
+        → after_undoing_while m test r xs (whole X C) ≡ whole X (after_undoing_while m test r xs C)
+    while_whole test r [] C own = refl
+    while_whole test r (e ∷ older) C own =
+        elim (cases_Bool (test e)) [
+          | inl goes ↦ rw goes (ap (after_undoing_while m test r older) (undoing_whole C r e older own) ∙ while_whole test r older (after_undoing m C r e older) own)
+          | inr stays ↦ rw stays refl
         ]
 
-    not_there : (e : E) (xs : List E) → times m e xs ≡ 0 → take_out m e xs ≡ xs
-    not_there e [] none = refl
-    not_there e (x ∷ xs) none =
-        elim (cases_Bool (m.same e x)) [
-          | inl same ↦ (let count : times m e (x ∷ xs) ≡ 1 + times m e xs = rw same refl in absurd (omega arith))
-          | inr other ↦ (let count : times m e (x ∷ xs) ≡ 0 + times m e xs = rw other refl in rw other (ap (λ ys. x ∷ ys) (not_there e xs (omega arith))))
+    rolled_whole : (test : E → Bool) (r : ℕ) (C : Core E) → X.mine r ≡ true
+        → after_undoing_while m test r ((whole X C).history r) (whole X C) ≡ whole X (after_undoing_while m test r (C.history r) C)
+    rolled_whole test r C own = ap (λ xs. after_undoing_while m test r xs (whole X C)) (same_history C r own) ∙ while_whole test r (C.history r) C own
+
+    with_pending_whole : (C : Core E) (e : E) → with_pending m (whole X C) e ≡ whole X (with_pending m C e)
+    with_pending_whole C e = ap (λ p. record (whole X C) { pending = p }) (insert_part m law e X.pending C.pending)
+
+    without_pending_whole : (C : Core E) (e : E) → X.mine (m.dst e) ≡ true → without_pending m (whole X C) e ≡ whole X (without_pending m C e)
+    without_pending_whole C e own = ap (λ p. record (whole X C) { pending = p }) (take_part m law e X.pending C.pending (apart.pending e own))
+
+    message_whole : (C : Core E) (e : E) → X.mine (m.dst e) ≡ true → after_message m (whole X C) e ≡ whole X (after_message m C e)
+    message_whole C e own =
+        let kept = count_part m law e X.kept C.kept (apart.kept e own) in
+        elim (cases_Bool (nat_lt 0 (times m e C.kept))) [
+          | inl some ↦ rw (kept, some) (ap (λ k. record (whole X C) { kept = k }) (take_part m law e X.kept C.kept (apart.kept e own)))
+          | inr unkept ↦ rw (kept, unkept) (
+              ap (λ D. with_pending m D e) (rolled_whole (λ x. m.before e x) (m.dst e) C own)
+              ∙ with_pending_whole (without_later m C e) e)
         ]
 
-    -- an event goes into the part's list
-    pub insert_part : (e : E) (P Q : List E) → insert m e (in_order (P ++ Q)) ≡ in_order (P ++ insert m e Q)
-    insert_part e P Q =
-        same_rising m law (insert m e (in_order (P ++ Q))) (in_order (P ++ insert m e Q)) (plain.rising-insert m.before m.same (is_order m law) e (in_order (P ++ Q)) (rising-in_order (P ++ Q)))
-        (rising-in_order (P ++ insert m e Q))
-        (λ x.
-        let a = times-insert m x e (in_order (P ++ Q)) in
-        let b = times-in_order x (P ++ Q) in
-        let c = times-append m x P Q in
-        let d = times-in_order x (P ++ insert m e Q) in
-        let f = times-append m x P (insert m e Q) in
-        let g = times-insert m x e Q in
-        omega arith)
-
-    -- an event of the part leaves its list
-    pub take_part : (e : E) (P Q : List E) → times m e P ≡ 0 → take_out m e (in_order (P ++ Q)) ≡ in_order (P ++ take_out m e Q)
-    take_part e P Q apart =
-        let whole_count = times-in_order e (P ++ Q) in
-        let parts = times-append m e P Q in
-        elim (cases_eq (times m e Q) 0) [
-          | inl absent ↦ not_there e (in_order (P ++ Q)) (omega arith) ∙ ap (λ ys. in_order (P ++ ys)) (sym (not_there e Q absent))
-          | inr some ↦ (
-              let present : 0 < times m e Q = (let h = some in grind arith) in
-              same_rising m law (take_out m e (in_order (P ++ Q))) (in_order (P ++ take_out m e Q)) (rising-take_out e (in_order (P ++ Q)) (rising-in_order (P ++ Q)))
-              (rising-in_order (P ++ take_out m e Q))
-              (λ x.
-              let a = times-take_out m law x e (in_order (P ++ Q)) (omega arith) in
-              let b = times-in_order x (P ++ Q) in
-              let c = times-append m x P Q in
-              let d = times-in_order x (P ++ take_out m e Q) in
-              let f = times-append m x P (take_out m e Q) in
-              let g = times-take_out m law x e Q present in
-              omega arith))
+    antimessage_whole : (C : Core E) (e : E) → X.mine (m.dst e) ≡ true → after_antimessage m (whole X C) e ≡ whole X (after_antimessage m C e)
+    antimessage_whole C e own =
+        let pending = count_part m law e X.pending C.pending (apart.pending e own) in
+        let here = same_history C (m.dst e) own in
+        elim (cases_Bool (nat_lt 0 (times m e C.pending))) [
+          | inl some ↦ rw (pending, some) (without_pending_whole C e own)
+          | inr absent ↦ elim (cases_Bool (nat_lt 0 (times m e (C.history (m.dst e))))) [
+            | inl handled ↦ rw (pending, absent, here, handled) (
+                ap (λ D. without_pending m D e) (while_whole (λ x. not (m.before x e)) (m.dst e) (C.history (m.dst e)) C own)
+                ∙ without_pending_whole (without_from m C e) e own)
+            | inr unhandled ↦ rw (pending, absent, here, unhandled) (ap (λ k. record (whole X C) { kept = k }) (insert_part m law e X.kept C.kept))
+          ]
         ]
 
-    -- how often an event of the part stands in the whole
-    pub count_part : (e : E) (P Q : List E) → times m e P ≡ 0 → times m e (in_order (P ++ Q)) ≡ times m e Q
-    count_part e P Q none = let a = times-in_order e (P ++ Q) in let b = times-append m e P Q in omega arith
-
-    -- ---- what is held
-
-    to_send_none : (held : List E) → to_send m [] held ≡ []
-    to_send_none [] = refl
-    to_send_none (h ∷ held) = refl
-
-    to_send_next : (x : E) (xs held : List E) → to_send m (x ∷ xs) held ≡ (if nat_lt 0 (times m x held) then to_send m xs (take_out m x held) else x ∷ to_send m xs held)
-    to_send_next x xs [] = refl
-    to_send_next x xs (h ∷ held) = refl
-
-    still_held_none : (held : List E) → still_held m [] held ≡ held
-    still_held_none [] = refl
-    still_held_none (h ∷ held) = refl
-
-    still_held_next : (x : E) (xs held : List E) → still_held m (x ∷ xs) held ≡ still_held m xs (take_out m x held)
-    still_held_next x xs [] = sym (still_held_empty xs) where
-      still_held_empty : (xs : List E) → still_held m xs [] ≡ []
-      still_held_empty [] = refl
-      still_held_empty (x ∷ xs) = refl
-    still_held_next x xs (h ∷ held) = refl
-
-    -- none of these is held for the rest
-    abbrev AreApart : List E → List E → Type 0
-    AreApart xs P = (x : E) → 0 < times m x xs → times m x P ≡ 0
-
-    first_apart : (x : E) (xs P : List E) → AreApart (x ∷ xs) P → times m x P ≡ 0
-    first_apart x xs P apart = apart x (in_head m law x xs)
-
-    later_apart : (x : E) (xs P : List E) → AreApart (x ∷ xs) P → AreApart xs P
-    later_apart x xs P apart = λ y h. apart y (omega arith)
-
-    -- what goes out of what the part sends does not depend on what is held for the rest
-    to_send_part : (xs P Q : List E) → AreApart xs P → to_send m xs (in_order (P ++ Q)) ≡ to_send m xs Q
-    to_send_part [] P Q apart = to_send_none (in_order (P ++ Q)) ∙ sym (to_send_none Q)
-    to_send_part (x ∷ xs) P Q apart =
-        let none = first_apart x xs P apart in
-        let rest = later_apart x xs P apart in
-        to_send_next x xs (in_order (P ++ Q))
-        ∙ (ap (λ n. if nat_lt 0 n then to_send m xs (take_out m x (in_order (P ++ Q))) else x ∷ to_send m xs (in_order (P ++ Q))) (count_part x P Q none)
-        ∙ (elim (cases_Bool (nat_lt 0 (times m x Q))) [
-          | inl some ↦ rw some (ap (to_send m xs) (take_part x P Q none) ∙ to_send_part xs P (take_out m x Q) rest)
-          | inr absent ↦ rw absent (ap (λ ys. x ∷ ys) (to_send_part xs P Q rest))
+    pub arrival_whole : (C : Core E) (x : Signed E) → X.mine (m.dst x.event) ≡ true → after_arrival m (whole X C) x ≡ whole X (after_arrival m C x)
+    arrival_whole C x own =
+        elim (cases_Bool x.plus) [
+          | inl plus ↦ rw plus (message_whole C x.event own)
+          | inr minus ↦ rw minus (antimessage_whole C x.event own)
         ]
-        ∙ sym (to_send_next x xs Q)))
 
-    -- and what is held still is the part's and the rest's
-    still_held_part : (xs P Q : List E) → AreApart xs P → still_held m xs (in_order (P ++ Q)) ≡ in_order (P ++ still_held m xs Q)
-    still_held_part [] P Q apart = still_held_none (in_order (P ++ Q)) ∙ ap (λ ys. in_order (P ++ ys)) (sym (still_held_none Q))
-    still_held_part (x ∷ xs) P Q apart =
-        still_held_next x xs (in_order (P ++ Q))
-        ∙ (ap (still_held m xs) (take_part x P Q (first_apart x xs P apart))
-        ∙ (still_held_part xs P (take_out m x Q) (later_apart x xs P apart)
-        ∙ ap (λ ys. in_order (P ++ ys)) (sym (still_held_next x xs Q))))
+    pub commit_whole : (C : Core E) (r : ℕ) → X.mine r ≡ true → with_commit m (whole X C) r ≡ whole X (with_commit m C r)
+    commit_whole C r own =
+        let count = λ (xs : List E). suffix_len (λ e. nat_lt (m.time e) C.bound) xs in
+        λ i. record (whole X C) {
+          done = sym (put_within X.mine C.done X.done r C.bound own) i;
+          past = (ap (λ xs. put (whole X C).past r (count xs)) (same_history C r own) ∙ sym (put_within X.mine C.past X.past r (count (C.history r)) own)) i;
+        }
 
-    held_back_part : (cancel : Cancel) (xs P Q : List E) → held_back m cancel xs (in_order (P ++ Q)) ≡ in_order (P ++ held_back m cancel xs Q)
-    held_back_part Aggressive xs P Q = refl
-    held_back_part Lazy xs P Q =
-        same_rising m law (insert_all m xs (in_order (P ++ Q))) (in_order (P ++ insert_all m xs Q)) (rising-insert_all m law xs (in_order (P ++ Q)) (rising-in_order (P ++ Q)))
-        (rising-in_order (P ++ insert_all m xs Q))
-        (λ x.
-        let a = times-insert_all m x xs (in_order (P ++ Q)) in
-        let b = times-in_order x (P ++ Q) in
-        let c = times-append m x P Q in
-        let d = times-in_order x (P ++ insert_all m xs Q) in
-        let f = times-append m x P (insert_all m xs Q) in
-        let g = times-insert_all m x xs Q in
-        omega arith)
+    pub room_whole : (C : Core E) (r : ℕ) → X.mine r ≡ true → with_room m (whole X C) r ≡ whole X (with_room m C r)
+    room_whole C r own =
+        ap (λ d. record (whole X C) { room = d }) (ap (λ n. put (whole X C).room r (2 * n)) (same_room C r own) ∙ sym (put_within X.mine C.room X.room r (2 * C.room r) own))
 
-    -- what router r holds of the whole is what it holds of the part, where that is in order
-    from_part : (r : ℕ) (P Q : List E) → ((e : E) → (m.src e == r) ≡ true → times m e P ≡ 0) → IsRising m Q → from m r (in_order (P ++ Q)) ≡ from m r Q
-    from_part r P Q apart rising =
-        let own = λ (x : E). m.src x == r in
-        same_rising m law (from m r (in_order (P ++ Q))) (from m r Q) (rising-filter m law own (in_order (P ++ Q)) (rising-in_order (P ++ Q))) (rising-filter m law own Q rising)
-        (λ e. elim (cases_Bool (m.src e == r)) [
-          | inl here ↦ times-filter-yes m law own e (in_order (P ++ Q)) here ∙ (count_part e P Q (apart e here) ∙ sym (times-filter-yes m law own e Q here))
-          | inr other ↦ times-filter-no m law own e (in_order (P ++ Q)) other ∙ sym (times-filter-no m law own e Q other)
+    pub release_whole : (C : Core E) (r : ℕ) → X.mine r ≡ true → IsRising m C.held → with_release m (whole X C) r ≡ whole X (with_release m C r)
+    release_whole C r own rising =
+        λ i. record (whole X C) {
+          flight = C.flight ++ map antimessage (from_part m law r X.held C.held (own_apart r own) rising i);
+          held = from_others_part m law r X.held C.held (own_apart r own) i;
+        }
+
+    -- ---- steps, refusals among them
+
+    pub first_whole : (C : Core E) (r : ℕ) → X.mine r ≡ true → first_pending m (whole X C) r ≡ first_pending m C r
+    first_whole C r own =
+        same_least m law (only m r (in_order m (X.pending ++ C.pending))) (only m r C.pending) (λ e. elim (cases_Bool (m.dst e == r)) [
+          | inl here ↦ times-filter-yes m law (λ x. m.dst x == r) e (in_order m (X.pending ++ C.pending)) here
+              ∙ (count_part m law e X.pending C.pending (apart.pending e (ap X.mine (eqb-true (m.dst e) r here) ∙ own))
+              ∙ sym (times-filter-yes m law (λ x. m.dst x == r) e C.pending here))
+          | inr other ↦ times-filter-no m law (λ x. m.dst x == r) e (in_order m (X.pending ++ C.pending)) other ∙ sym (times-filter-no m law (λ x. m.dst x == r) e C.pending other)
         ])
 
-    from_others_part : (r : ℕ) (P Q : List E) → ((e : E) → (m.src e == r) ≡ true → times m e P ≡ 0) → from_others m r (in_order (P ++ Q)) ≡ in_order (P ++ from_others m r Q)
-    from_others_part r P Q apart =
-        let others = λ (x : E). not (m.src x == r) in
-        same_rising m law (from_others m r (in_order (P ++ Q))) (in_order (P ++ from_others m r Q)) (rising-filter m law others (in_order (P ++ Q)) (rising-in_order (P ++ Q)))
-        (rising-in_order (P ++ from_others m r Q))
-        (λ e.
-        let b = times-in_order e (P ++ Q) in
-        let c = times-append m e P Q in
-        let d = times-in_order e (P ++ from_others m r Q) in
-        let f = times-append m e P (from_others m r Q) in
-        elim (cases_Bool (m.src e == r)) [
-          | inl here ↦ (
-              let no : not (m.src e == r) ≡ false = rw here refl in
-              let a = times-filter-no m law others e (in_order (P ++ Q)) no in
-              let g = times-filter-no m law others e Q no in
-              let none = apart e here in
-              omega arith)
-          | inr other ↦ (
-              let yes : not (m.src e == r) ≡ true = rw other refl in
-              let a = times-filter-yes m law others e (in_order (P ++ Q)) yes in
-              let g = times-filter-yes m law others e Q yes in
-              omega arith)
-        ])
+    -- an event that is first among a router's is for it
+    first_home : (C : Core E) (r : ℕ) (e : E) → first_pending m C r ≡ Some e → m.dst e ≡ r
+    first_home C r e is = eqb-true (m.dst e) r (in_filter m law (λ x. m.dst x == r) e C.pending (least_is m law e (only m r C.pending) is).there).0
 
-    -- the least event does not depend on the order of a list
-    pub same_least : (xs ys : List E) → ((e : E) → times m e xs ≡ times m e ys) → least m.before xs ≡ least m.before ys
-    same_least xs ys h = go (least m.before xs) (least m.before ys) refl refl where
-      empty : (zs : List E) → least m.before zs ≡ None → zs ≡ []
-      empty [] is = refl
-      empty (z ∷ zs) is = cc
-
-      go : (o p : Option E) → least m.before xs ≡ o → least m.before ys ≡ p → o ≡ p
-      go None None a b = refl
-      go None (Some d) a b = (let there = (least_is m law d ys b).there in let none = ap (times m d) (empty xs a) in let k = h d in absurd (omega arith))
-      go (Some e) None a b = (let there = (least_is m law e xs a).there in let none = ap (times m e) (empty ys b) in let k = h e in absurd (omega arith))
-      go (Some e) (Some d) a b =
-          let one = least_is m law e xs a in
-          let two = least_is m law d ys b in
-          let k = h d in
-          let l = h e in
-          let one_there = one.there in
-          let two_there = two.there in
-          ap Some (law.total e d (two.first e (omega arith)) (one.first d (omega arith)))
-
-    module _ (X : Rest E) (apart : IsApart X) where
-      pub same_history : (C : Core E) (r : ℕ) → X.mine r ≡ true → (whole X C).history r ≡ C.history r
-      same_history C r own = rw own refl
-
-      same_done : (C : Core E) (r : ℕ) → X.mine r ≡ true → (whole X C).done r ≡ C.done r
-      same_done C r own = rw own refl
-
-      same_ahead : (C : Core E) (r : ℕ) → X.mine r ≡ true → count_ahead (whole X C) r ≡ count_ahead C r
-      same_ahead C r own = rw own refl
-
-      -- what is held for one of the part's routers
-      pub held_at : (C : Core E) (r : ℕ) → X.mine r ≡ true → IsRising m C.held → from m r (whole X C).held ≡ from m r C.held
-      held_at C r own rising = from_part r X.held C.held (λ e here. apart.held e (ap X.mine (eqb-true (m.src e) r here) ∙ own)) rising
-
-      same_room : (C : Core E) (r : ℕ) → X.mine r ≡ true → (whole X C).room r ≡ C.room r
-      same_room C r own = rw own refl
-
-      -- what one of the part's routers sends is not held for the rest
-      sends_apart : (s : S) (e : E) → X.mine (m.dst e) ≡ true → AreApart (m.sends s e) X.held
-      sends_apart s e own = λ x h. apart.held x (ap X.mine (law.sender s e x h) ∙ own)
-
-      own_apart : (r : ℕ) → X.mine r ≡ true → (e : E) → (m.src e == r) ≡ true → times m e X.held ≡ 0
-      own_apart r own e here = apart.held e (ap X.mine (eqb-true (m.src e) r here) ∙ own)
-
-      -- ---- what steps leave
-
-      pub handling_whole : (C : Core E) (r : ℕ) (e : E) → X.mine r ≡ true → m.dst e ≡ r → after_handling m (whole X C) r e ≡ whole X (after_handling m C r e)
-      handling_whole C r e own home =
-          let here = same_history C r own in
-          let none = apart.pending e (ap X.mine home ∙ own) in
-          let sends = m.sends (state m r (C.history r)) e in
-          let sent_apart = sends_apart (state m r (C.history r)) e (ap X.mine home ∙ own) in
-          let known : m.sends (state m r ((whole X C).history r)) e ≡ sends = ap (λ h. m.sends (state m r h) e) here in
-          λ i. record {
-            history = (ap (λ h. put (whole X C).history r (e ∷ h)) here ∙ sym (put_within X.mine C.history X.history r (e ∷ C.history r) own)) i;
-            pending = take_part e X.pending C.pending none i;
-            kept = in_order (X.kept ++ C.kept);
-            flight = C.flight ++ map message ((ap (λ xs. to_send m xs (in_order (X.held ++ C.held))) known ∙ to_send_part sends X.held C.held sent_apart) i);
-            held = (ap (λ xs. still_held m xs (in_order (X.held ++ C.held))) known ∙ still_held_part sends X.held C.held sent_apart) i;
-            done = (whole X C).done;
-            past = (whole X C).past;
-            room = (whole X C).room;
-            bound = C.bound;
-            stop = C.stop;
-            cancel = C.cancel;
-          }
-
-      pub undoing_whole : (C : Core E) (r : ℕ) (e : E) (older : List E) → X.mine r ≡ true → after_undoing m (whole X C) r e older ≡ whole X (after_undoing m C r e older)
-      undoing_whole C r e older own = λ i. record {
-        history = sym (put_within X.mine C.history X.history r older own) i;
-        pending = insert_part e X.pending C.pending i;
-        kept = in_order (X.kept ++ C.kept);
-        flight = C.flight ++ sent_back m C.cancel (m.sends (state m r older) e);
-        held = held_back_part C.cancel (m.sends (state m r older) e) X.held C.held i;
-        done = (whole X C).done;
-        past = (whole X C).past;
-        room = (whole X C).room;
-        bound = C.bound;
-        stop = C.stop;
-        cancel = C.cancel;
-      }
-
-      while_whole : (test : E → Bool) (r : ℕ) (xs : List E) (C : Core E) → X.mine r ≡ true
-          → after_undoing_while m test r xs (whole X C) ≡ whole X (after_undoing_while m test r xs C)
-      while_whole test r [] C own = refl
-      while_whole test r (e ∷ older) C own =
-          elim (cases_Bool (test e)) [
-            | inl goes ↦ rw goes (ap (after_undoing_while m test r older) (undoing_whole C r e older own) ∙ while_whole test r older (after_undoing m C r e older) own)
-            | inr stays ↦ rw stays refl
-          ]
-
-      rolled_whole : (test : E → Bool) (r : ℕ) (C : Core E) → X.mine r ≡ true
-          → after_undoing_while m test r ((whole X C).history r) (whole X C) ≡ whole X (after_undoing_while m test r (C.history r) C)
-      rolled_whole test r C own = ap (λ xs. after_undoing_while m test r xs (whole X C)) (same_history C r own) ∙ while_whole test r (C.history r) C own
-
-      with_pending_whole : (C : Core E) (e : E) → with_pending m (whole X C) e ≡ whole X (with_pending m C e)
-      with_pending_whole C e = ap (λ p. record (whole X C) { pending = p }) (insert_part e X.pending C.pending)
-
-      without_pending_whole : (C : Core E) (e : E) → X.mine (m.dst e) ≡ true → without_pending m (whole X C) e ≡ whole X (without_pending m C e)
-      without_pending_whole C e own = ap (λ p. record (whole X C) { pending = p }) (take_part e X.pending C.pending (apart.pending e own))
-
-      message_whole : (C : Core E) (e : E) → X.mine (m.dst e) ≡ true → after_message m (whole X C) e ≡ whole X (after_message m C e)
-      message_whole C e own =
-          let kept = count_part e X.kept C.kept (apart.kept e own) in
-          elim (cases_Bool (nat_lt 0 (times m e C.kept))) [
-            | inl some ↦ rw (kept, some) (ap (λ k. record (whole X C) { kept = k }) (take_part e X.kept C.kept (apart.kept e own)))
-            | inr unkept ↦ rw (kept, unkept) (
-                ap (λ D. with_pending m D e) (rolled_whole (λ x. m.before e x) (m.dst e) C own)
-                ∙ with_pending_whole (without_later m C e) e)
-          ]
-
-      antimessage_whole : (C : Core E) (e : E) → X.mine (m.dst e) ≡ true → after_antimessage m (whole X C) e ≡ whole X (after_antimessage m C e)
-      antimessage_whole C e own =
-          let pending = count_part e X.pending C.pending (apart.pending e own) in
-          let here = same_history C (m.dst e) own in
-          elim (cases_Bool (nat_lt 0 (times m e C.pending))) [
-            | inl some ↦ rw (pending, some) (without_pending_whole C e own)
-            | inr absent ↦ elim (cases_Bool (nat_lt 0 (times m e (C.history (m.dst e))))) [
-              | inl handled ↦ rw (pending, absent, here, handled) (
-                  ap (λ D. without_pending m D e) (while_whole (λ x. not (m.before x e)) (m.dst e) (C.history (m.dst e)) C own)
-                  ∙ without_pending_whole (without_from m C e) e own)
-              | inr unhandled ↦ rw (pending, absent, here, unhandled) (ap (λ k. record (whole X C) { kept = k }) (insert_part e X.kept C.kept))
-            ]
-          ]
-
-      pub arrival_whole : (C : Core E) (x : Signed E) → X.mine (m.dst x.event) ≡ true → after_arrival m (whole X C) x ≡ whole X (after_arrival m C x)
-      arrival_whole C x own =
-          elim (cases_Bool x.plus) [
-            | inl plus ↦ rw plus (message_whole C x.event own)
-            | inr minus ↦ rw minus (antimessage_whole C x.event own)
-          ]
-
-      pub commit_whole : (C : Core E) (r : ℕ) → X.mine r ≡ true → with_commit m (whole X C) r ≡ whole X (with_commit m C r)
-      commit_whole C r own =
-          let count = λ (xs : List E). suffix_len (λ e. nat_lt (m.time e) C.bound) xs in
-          λ i. record (whole X C) {
-            done = sym (put_within X.mine C.done X.done r C.bound own) i;
-            past = (ap (λ xs. put (whole X C).past r (count xs)) (same_history C r own) ∙ sym (put_within X.mine C.past X.past r (count (C.history r)) own)) i;
-          }
-
-      pub room_whole : (C : Core E) (r : ℕ) → X.mine r ≡ true → with_room m (whole X C) r ≡ whole X (with_room m C r)
-      room_whole C r own =
-          ap (λ d. record (whole X C) { room = d }) (ap (λ n. put (whole X C).room r (2 * n)) (same_room C r own) ∙ sym (put_within X.mine C.room X.room r (2 * C.room r) own))
-
-      pub release_whole : (C : Core E) (r : ℕ) → X.mine r ≡ true → IsRising m C.held → with_release m (whole X C) r ≡ whole X (with_release m C r)
-      release_whole C r own rising =
-          λ i. record (whole X C) {
-            flight = C.flight ++ map antimessage (from_part r X.held C.held (own_apart r own) rising i);
-            held = from_others_part r X.held C.held (own_apart r own) i;
-          }
-
-      -- ---- steps, refusals among them
-
-      pub first_whole : (C : Core E) (r : ℕ) → X.mine r ≡ true → first_pending m (whole X C) r ≡ first_pending m C r
-      first_whole C r own =
-          same_least (only m r (in_order (X.pending ++ C.pending))) (only m r C.pending) (λ e. elim (cases_Bool (m.dst e == r)) [
-            | inl here ↦ times-filter-yes m law (λ x. m.dst x == r) e (in_order (X.pending ++ C.pending)) here
-                ∙ (count_part e X.pending C.pending (apart.pending e (ap X.mine (eqb-true (m.dst e) r here) ∙ own))
-                ∙ sym (times-filter-yes m law (λ x. m.dst x == r) e C.pending here))
-            | inr other ↦ times-filter-no m law (λ x. m.dst x == r) e (in_order (X.pending ++ C.pending)) other ∙ sym (times-filter-no m law (λ x. m.dst x == r) e C.pending other)
-          ])
-
-      -- an event that is first among a router's is for it
-      first_home : (C : Core E) (r : ℕ) (e : E) → first_pending m C r ≡ Some e → m.dst e ≡ r
-      first_home C r e is = eqb-true (m.dst e) r (in_filter m law (λ x. m.dst x == r) e C.pending (least_is m law e (only m r C.pending) is).there).0
-
-      handle_event : (C : Core E) (r : ℕ) (e : E) → X.mine r ≡ true → m.dst e ≡ r → handle m (whole X C) r (Some e) ≡ lift X (handle m C r (Some e))
-      handle_event C r e own home =
-          let here = same_history C r own in
-          let next = handling_whole C r e own home in
-          let done : Result (Core E) Refusal = Ok (after_handling m (whole X C) r e) in
-          let ahead = same_ahead C r own in
-          let places = same_room C r own in
-          (λ i. if nat_lt (m.time e) C.stop then (if is_newest m e (here i) then Err Double else (if nat_lt (ahead i) (places i) then (if m.full (state m r (here i)) e then Err CounterFull else done) else Err AheadFull)) else Err Nothing)
-          ∙ elim (cases_Bool (nat_lt (m.time e) C.stop)) [
-            | inl soon ↦ elim (cases_Bool (is_newest m e (C.history r))) [
-              | inl double ↦ rw (soon, double) refl
-              | inr new ↦ elim (cases_Bool (nat_lt (count_ahead C r) (C.room r))) [
-                | inl place ↦ elim (cases_Bool (m.full (state m r (C.history r)) e)) [
-                  | inl full ↦ rw (soon, new, place, full) refl
-                  | inr fits ↦ rw (soon, new, place, fits) (ap Ok next)
-                ]
-                | inr none ↦ rw (soon, new, none) refl
+    handle_event : (C : Core E) (r : ℕ) (e : E) → X.mine r ≡ true → m.dst e ≡ r → handle m (whole X C) r (Some e) ≡ lift X (handle m C r (Some e))
+    handle_event C r e own home =
+        let here = same_history C r own in
+        let next = handling_whole C r e own home in
+        let done : Result (Core E) Refusal = Ok (after_handling m (whole X C) r e) in
+        let ahead = same_ahead C r own in
+        let places = same_room C r own in
+        (λ i. if nat_lt (m.time e) C.stop then (if is_newest m e (here i) then Err Double else (if nat_lt (ahead i) (places i) then (if m.full (state m r (here i)) e then Err CounterFull else done) else Err AheadFull)) else Err Nothing)
+        ∙ elim (cases_Bool (nat_lt (m.time e) C.stop)) [
+          | inl soon ↦ elim (cases_Bool (is_newest m e (C.history r))) [
+            | inl double ↦ rw (soon, double) refl
+            | inr new ↦ elim (cases_Bool (nat_lt (count_ahead C r) (C.room r))) [
+              | inl place ↦ elim (cases_Bool (m.full (state m r (C.history r)) e)) [
+                | inl full ↦ rw (soon, new, place, full) refl
+                | inr fits ↦ rw (soon, new, place, fits) (ap Ok next)
               ]
+              | inr none ↦ rw (soon, new, none) refl
             ]
-            | inr late ↦ rw late refl
           ]
+          | inr late ↦ rw late refl
+        ]
 
-      pub handle_whole : (C : Core E) (r : ℕ) → X.mine r ≡ true
-          → handle m (whole X C) r (first_pending m (whole X C) r) ≡ lift X (handle m C r (first_pending m C r))
-      handle_whole C r own = ap (handle m (whole X C) r) (first_whole C r own) ∙ go (first_pending m C r) refl where
-        go : (o : Option E) → first_pending m C r ≡ o → handle m (whole X C) r o ≡ lift X (handle m C r o)
-        go None is = refl
-        go (Some e) is = handle_event C r e own (first_home C r e is)
+    pub handle_whole : (C : Core E) (r : ℕ) → X.mine r ≡ true
+        → handle m (whole X C) r (first_pending m (whole X C) r) ≡ lift X (handle m C r (first_pending m C r))
+    handle_whole C r own = ap (handle m (whole X C) r) (first_whole C r own) ∙ go (first_pending m C r) refl where
+      go : (o : Option E) → first_pending m C r ≡ o → handle m (whole X C) r o ≡ lift X (handle m C r o)
+      go None is = refl
+      go (Some e) is = handle_event C r e own (first_home C r e is)
 
-      undo_list : (C : Core E) (r : ℕ) (xs : List E) → X.mine r ≡ true → undo m (whole X C) r xs ≡ lift X (undo m C r xs)
-      undo_list C r [] own = refl
-      undo_list C r (e ∷ older) own =
-          let done = same_done C r own in
-          elim (cases_Bool (nat_lt (m.time e) (C.done r) || nat_lt (m.time e) C.bound)) [
-            | inl early ↦ rw (done, early) refl
-            | inr late ↦ rw (done, late) (ap Ok (undoing_whole C r e older own))
-          ]
+    undo_list : (C : Core E) (r : ℕ) (xs : List E) → X.mine r ≡ true → undo m (whole X C) r xs ≡ lift X (undo m C r xs)
+    undo_list C r [] own = refl
+    undo_list C r (e ∷ older) own =
+        let done = same_done C r own in
+        elim (cases_Bool (nat_lt (m.time e) (C.done r) || nat_lt (m.time e) C.bound)) [
+          | inl early ↦ rw (done, early) refl
+          | inr late ↦ rw (done, late) (ap Ok (undoing_whole C r e older own))
+        ]
 
-      pub undo_whole : (C : Core E) (r : ℕ) → X.mine r ≡ true → undo m (whole X C) r ((whole X C).history r) ≡ lift X (undo m C r (C.history r))
-      undo_whole C r own = ap (undo m (whole X C) r) (same_history C r own) ∙ undo_list C r (C.history r) own
+    pub undo_whole : (C : Core E) (r : ℕ) → X.mine r ≡ true → undo m (whole X C) r ((whole X C).history r) ≡ lift X (undo m C r (C.history r))
+    undo_whole C r own = ap (undo m (whole X C) r) (same_history C r own) ∙ undo_list C r (C.history r) own
 
   -- what a part keeps of a good state, where it has the histories of its own routers alone
   pub part_of : (X : Rest E) (t : ℕ) (C : Core E) → IsLawful m → ((r : ℕ) → X.mine r ≡ false → C.history r ≡ []) → IsGoodPart m t (whole X C) → IsGoodPart m t C
@@ -461,11 +263,11 @@ module _ {S E : Type 0} (m : Simulation S E) where
       let handled : (r : ℕ) (e : E) → 0 < times m e (C.history r) → 0 < times m e ((whole X C).history r) =
       λ r e h. subst (λ xs. 0 < times m e xs) (sym (history r (some r e h))) h in
       let pending : (e : E) → times m e (whole X C).pending ≡ times m e X.pending + times m e C.pending =
-      λ e. times-in_order law e (X.pending ++ C.pending) ∙ times-append m e X.pending C.pending in
+      λ e. times-in_order m law e (X.pending ++ C.pending) ∙ times-append m e X.pending C.pending in
       let kept : (e : E) → times m e (whole X C).kept ≡ times m e X.kept + times m e C.kept =
-      λ e. times-in_order law e (X.kept ++ C.kept) ∙ times-append m e X.kept C.kept in
+      λ e. times-in_order m law e (X.kept ++ C.kept) ∙ times-append m e X.kept C.kept in
       let held : (e : E) → times m e (whole X C).held ≡ times m e X.held + times m e C.held =
-      λ e. times-in_order law e (X.held ++ C.held) ∙ times-append m e X.held C.held in
+      λ e. times-in_order m law e (X.held ++ C.held) ∙ times-append m e X.held C.held in
       record {
         falling = λ r. elim (cases_Bool (X.mine r)) [
           | inl own ↦ subst (IsFalling m) (history r own) (good.falling r)

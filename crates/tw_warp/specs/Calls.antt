@@ -14,12 +14,12 @@ use Rattle.tw_warp.specs.declared.calls.RouterCall.TheVariants.{Commit, Handle, 
 use Rattle.tw_warp.specs.Warp.{TakesNone}
 
 -- the machine after a call at router r, or why it is refused: most calls are steps, and one gives the router more room
-abbrev pub outcome_of : {S E : Type 0} → Simulation S E → RouterCall → ℕ → Core E → Result (Core E) Refusal
-outcome_of m Handle r C = step m C (steps.Handle r)
-outcome_of m Undo r C = step m C (steps.Undo r)
-outcome_of m Commit r C = step m C (steps.Commit r)
-outcome_of m Release r C = step m C (steps.Release r)
-outcome_of m Widen r C = at_router m r (Ok (with_room m C r))
+abbrev pub after_call : {S E : Type 0} → Simulation S E → RouterCall → ℕ → Core E → Result (Core E) Refusal
+after_call m Handle r C = step m C (steps.Handle r)
+after_call m Undo r C = step m C (steps.Undo r)
+after_call m Commit r C = step m C (steps.Commit r)
+after_call m Release r C = step m C (steps.Release r)
+after_call m Widen r C = at_router m r (Ok (with_room m C r))
 
 -- such a call that takes no memory; more room takes none where the number fits
 abbrev pub CallTakesNone : {S E : Type 0} → Simulation S E → RouterCall → ℕ → Core E → Type 0

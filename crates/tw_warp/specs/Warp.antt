@@ -9,7 +9,7 @@ use Rattle.tw_event.specs.declared.event.Event.{Event}
 use Rattle.tw_event.specs.Order.{event_before, event_same}
 use Rattle.tw_model.specs.Case.{Case, IsCase, simulation}
 use Rattle.tw_model.specs.declared.limits.TheConstants.{LATEST}
-use Rattle.tw_shard.specs.Shard.{Shard}
+use Rattle.tw_shard.specs.Shard.{Shard, shard_core}
 pub use Rattle.tw_shard.specs.Shard.{no_shard}
 use Rattle.tw_shard.specs.Shard as share
 use Rattle.tw_sim.specs.declared.machine.Cancel.{Cancel}
@@ -37,20 +37,20 @@ abbrev pub shard_at : Warp → ℕ → Shard
 shard_at w k = slice_index_or w.shards k no_shard
 
 -- which worker has router r
-abbrev pub worker_of : Warp → ℕ → ℕ
-worker_of w r = owner (length w.shards) r
+abbrev pub worker_with : Warp → ℕ → ℕ
+worker_with w r = owner (length w.shards) r
 
 -- the machine: what waits and what is held, in order
-abbrev pub core : Warp → Core Event
-core w = record {
-  history = λ r. (share.core w.stop (shard_at w (worker_of w r))).history r;
+abbrev pub warp_core : Warp → Core Event
+warp_core w = record {
+  history = λ r. (shard_core w.stop (shard_at w (worker_with w r))).history r;
   pending = insert_all event_before (flat_map (λ s. s.pending) w.shards) [];
   kept = insert_all event_before (flat_map (λ s. s.kept) w.shards) [];
   flight = w.flight;
   held = insert_all event_before (flat_map (λ s. s.held) w.shards) [];
-  done = λ r. (share.core w.stop (shard_at w (worker_of w r))).done r;
-  past = λ r. (share.core w.stop (shard_at w (worker_of w r))).past r;
-  room = λ r. (share.core w.stop (shard_at w (worker_of w r))).room r;
+  done = λ r. (shard_core w.stop (shard_at w (worker_with w r))).done r;
+  past = λ r. (shard_core w.stop (shard_at w (worker_with w r))).past r;
+  room = λ r. (shard_core w.stop (shard_at w (worker_with w r))).room r;
   bound = w.bound;
   stop = w.stop;
   cancel = w.cancel;
@@ -62,11 +62,11 @@ pub record IsShare (w : Warp) (k : ℕ) (s : Shard) : Type 0 where
   pub case : s.case ≡ w.case
   pub worker : s.worker ≡ k
   -- it has the routers of the case that are this worker's
-  pub routers : (r : ℕ) → share.owns s r ≡ (nat_lt r w.case.net.nodes && (worker_of w r == k))
+  pub routers : (r : ℕ) → share.owns s r ≡ (nat_lt r w.case.net.nodes && (worker_with w r == k))
   -- with the bound of all
   pub bound : s.bound ≡ w.bound
-  -- its routers keep their committed events
-  pub keeps : s.keeps ≡ true
+  -- its routers retain their committed events
+  pub retains : s.retains ≡ true
   -- what undone events have sent is taken back when it is for all
   pub cancel : s.cancel ≡ w.cancel
   -- what its routers have sent is in flight
@@ -74,16 +74,16 @@ pub record IsShare (w : Warp) (k : ℕ) (s : Shard) : Type 0 where
   -- what is held is in order
   pub held : IsRising event_before event_same s.held
   -- what waits there is for its routers, and what is held was sent by them
-  pub own : IsOwn (simulation w.case) (λ r. worker_of w r == k) (share.core w.stop s)
+  pub own : IsOwn (simulation w.case) (λ r. worker_with w r == k) (shard_core w.stop s)
 
 -- the shards are the workers', and together they are a good state
 pub record IsWarp (w : Warp) : Type 0 where
   pub case : IsCase w.case
   pub workers : 0 < length w.shards
   pub shares : (k : ℕ) → k < length w.shards → IsShare w k (shard_at w k)
-  pub good : IsGood (simulation w.case) (core w)
+  pub good : IsGood (simulation w.case) (warp_core w)
   -- as many events of each router are counted as committed as are committed, so that it has room for just so many others as it is told
-  pub counted : AreCounted (simulation w.case) (core w)
+  pub counted : AreCounted (simulation w.case) (warp_core w)
   pub stop : w.stop ≤ LATEST
 
 -- a shard that sends behind these messages
@@ -95,7 +95,7 @@ abbrev pub lent : Warp → ℕ → Shard
 lent w k = behind (shard_at w k) w.flight
 
 -- the later machine has the same case, workers and stop, and takes back what undone events have sent at the same time
-pub record IsSameMachine (v w : Warp) : Type 0 where
+pub record HasSameSettings (v w : Warp) : Type 0 where
   pub case : w.case ≡ v.case
   pub workers : length w.shards ≡ length v.shards
   pub stop : w.stop ≡ v.stop

@@ -3,7 +3,7 @@ ghost use Rattle.std.specs.Prelude.{◌≡◌, ◌≤◌, ◌<◌, ◌↔◌, �
 ghost use Rattle.tw_core.specs.declared.refusal.Refusal.{Refusal as ARefusal};
 ghost use Rattle.tw_model.specs.declared.limits.TheConstants.{LATEST};
 ghost use Rattle.tw_model.specs.declared.memory.OrMemory.TheVariants as or_memory;
-ghost use Rattle.tw_shard.specs.Shard.{Shard as AShard, IsSameShare, core, owns};
+ghost use Rattle.tw_shard.specs.Shard.{IsSameShare, Shard as AShard, owns, shard_core};
 ghost use Rattle.tw_core.specs.Steps.{after_arrival};
 ghost use Rattle.tw_model.specs.Case.{simulation};
 ghost use Rattle.tw_shard.specs.Arrival.{IsRolledBack, refusing};
@@ -42,8 +42,8 @@ pub(crate) fn call_on(
     stop: u64,
 ) -> Result<(), OrMemory<Refusal>>
     requires stop { stop ≤ LATEST }
-    requires keeps { shard.old.keeps ≡ true }
-    ensures ok { OnOk result (calling call stop (behind shard.old flight.old) router ≡ Ok (core stop (behind shard.new flight.new))) }
+    requires retains { shard.old.retains ≡ true }
+    ensures ok { OnOk result (calling call stop (behind shard.old flight.old) router ≡ Ok (shard_core stop (behind shard.new flight.new))) }
     ensures refused { (f : ARefusal) → IsErrOf result (or_memory.Fault f) ↔ (calling call stop (behind shard.old flight.old) router ≡ Err f) }
     ensures err { OnErr result (shard.new ≡ shard.old) }
     ensures unsent { OnErr result (flight.new ≡ flight.old) }
@@ -66,8 +66,8 @@ fn make(
     stop: u64,
 ) -> Result<(), OrMemory<Refusal>>
     requires stop { stop ≤ LATEST }
-    requires keeps { shard.old.keeps ≡ true }
-    ensures ok { OnOk result (calling call stop shard.old router ≡ Ok (core stop shard.new)) }
+    requires retains { shard.old.retains ≡ true }
+    ensures ok { OnOk result (calling call stop shard.old router ≡ Ok (shard_core stop shard.new)) }
     ensures refused { (f : ARefusal) → IsErrOf result (or_memory.Fault f) ↔ (calling call stop shard.old router ≡ Err f) }
     ensures err { OnErr result (shard.new ≡ shard.old) }
     ensures same { IsSameShare shard.old shard.new }
@@ -89,10 +89,10 @@ pub(crate) fn deliver_on(
     message: Signed<Event>,
 ) -> Result<(), OrMemory<Refusal>>
     requires { refusing shard.old message.event ≡ Ok tt }
-    ensures ok { (stop : ℕ) → OnOk result (after_arrival (simulation shard.old.case) (core stop (behind shard.old flight.old)) message ≡ core stop (behind shard.new flight.new)) }
+    ensures ok { (stop : ℕ) → OnOk result (after_arrival (simulation shard.old.case) (shard_core stop (behind shard.old flight.old)) message ≡ shard_core stop (behind shard.new flight.new)) }
     ensures memory { OnErr result (IsErrOf result or_memory.Memory) }
     ensures err { OnErr result ((stop : ℕ) → IsRolledBack (simulation shard.old.case) message.event
-        (core stop (behind shard.old flight.old)) (core stop (behind shard.new flight.new))) }
+        (shard_core stop (behind shard.old flight.old)) (shard_core stop (behind shard.new flight.new))) }
     ensures outgoing { shard.new.outgoing ≡ shard.old.outgoing }
     ensures same { IsSameShare shard.old shard.new }
 {

@@ -9,7 +9,7 @@ ghost use Rattle.tw_sim.specs.declared.machine.Cancel.{Cancel};
 ghost use Rattle.tw_sim.specs.declared.machine.Step.{Step};
 ghost use Rattle.tw_warp.specs.Committed.{committed_events};
 ghost use Rattle.tw_warp.specs.Openings.{opening_machine};
-ghost use Rattle.tw_warp.specs.Warp.{IsWarp, Warp, core};
+ghost use Rattle.tw_warp.specs.Warp.{IsWarp, Warp, warp_core};
 
 /// After any list of steps from its opening, the machine of a case, which takes back what undone events have
 /// sent at once or late, is the one-thread run as far as it is committed, and as far as its bound. Where all
@@ -17,5 +17,5 @@ ghost use Rattle.tw_warp.specs.Warp.{IsWarp, Warp, core};
 /// run to the bound.
 pub fn good_is_seq()
     ensures always { (case : Case) → IsCase case → (cancel : Cancel) (stop : ℕ) (steps : List Step) → IsSeq (simulation case) (run (simulation case) (opening_machine case cancel stop) steps) }
-    ensures together { (w : Warp) → IsWarp w → AreCommitted (simulation w.case) (core w) → committed_events w ≡ reverse (log (simulation w.case) w.bound) }
+    ensures together { (w : Warp) → IsWarp w → AreCommitted (simulation w.case) (warp_core w) → committed_events w ≡ reverse (log (simulation w.case) w.bound) }
 {}

@@ -2,7 +2,7 @@
 //! Virtual Time, 1985).
 //!
 //! Contracts see a `Warp` as the record of its shards, the messages on their way, the bound, the stop and when
-//! what undone events have sent is taken back (`specs/Warp`); `core` of that record is the machine of
+//! what undone events have sent is taken back (`specs/Warp`); `warp_core` of that record is the machine of
 //! `tw_core`. Proved: each step is that machine's, refusals among them, and the state is good at every
 //! return.
 #![tactic(auto)]

@@ -13,7 +13,7 @@ use Rattle.tw_ordered.specs.Queue.{is_before}
 use Rattle.tw_rule.proofs.Least.{events_told}
 use Rattle.tw_shard.proofs.Shares.{listed}
 use Rattle.tw_shard.specs.Roster.{has}
-use Rattle.tw_shard.specs.Shard.{IsSameShare, Shard, core, owns, place, releasing, routers}
+use Rattle.tw_shard.specs.Shard.{IsSameShare, Shard, owns, place, releasing, routers, shard_core}
 use Rattle.tw_sim.proofs.Counts.{in_filter, one_self, times-filter-yes}
 use Rattle.tw_sim.specs.Simulation.{IsLawful, Simulation, times}
 use Rattle.tw_table.specs.Shares.{Share}
@@ -98,11 +98,11 @@ early_awaited r stop least limit s law told sooner until found e held sender =
 -- ---- a router takes back what is held for it
 
 module _ (n stop : ℕ) (s t : Shard) (law : IsLawful (simulation s.case)) (same : IsSameShare s t) (own : owns s n ≡ true)
-    (done : releasing 0 s n ≡ Ok (core 0 t)) where
-  released : core 0 t ≡ with_release (simulation s.case) (core 0 s) n
+    (done : releasing 0 s n ≡ Ok (shard_core 0 t)) where
+  released : shard_core 0 t ≡ with_release (simulation s.case) (shard_core 0 s) n
   released =
-      let less : Result (Core Event) Refusal = Ok (with_release (simulation s.case) (core 0 s) n) in
-      let at_own : less ≡ Ok (core 0 t) = sym (ap (λ b. if b then less else Err NotMine) own) ∙ done in
+      let less : Result (Core Event) Refusal = Ok (with_release (simulation s.case) (shard_core 0 s) n) in
+      let at_own : less ≡ Ok (shard_core 0 t) = sym (ap (λ b. if b then less else Err NotMine) own) ∙ done in
       cc at_own
 
   -- what is held still was held, and others sent it

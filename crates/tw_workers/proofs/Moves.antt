@@ -9,13 +9,13 @@ use Rattle.tw_event.specs.declared.event.Event.{Event}
 use Rattle.tw_model.proofs.Lawful.{lawful}
 use Rattle.tw_model.specs.Case.{simulation}
 use Rattle.tw_rule.specs.Board.{times_among}
-use Rattle.tw_rule.specs.Place.{IsPlace, Keeps, Place, in_hand, whole}
+use Rattle.tw_rule.specs.Place.{IsPlace, Place, PreservesPlace, in_hand, whole}
 use Rattle.tw_shard.specs.Shard.{Shard, owns}
 use Rattle.tw_sim.proofs.Counts.{one_cases}
 use Rattle.tw_sim.specs.declared.machine.Signed.{Signed}
 use Rattle.tw_sim.specs.Simulation.{IsLawful, Simulation, one}
 use Rattle.tw_table.specs.Shares.{Share, place_of}
-use Rattle.tw_workers.specs.Work.{IsAtWork, Kept}
+use Rattle.tw_workers.specs.Work.{IsAtWork, PreservesShare}
 
 module _ {S E : Type 0} (m : Simulation S E) (law : IsLawful m) where
   -- how often an event is among the messages that pass a test, and among the others
@@ -79,7 +79,7 @@ module _ {S E : Type 0} (m : Simulation S E) (law : IsLawful m) where
   pub keeps_moved : (stop : ℕ) (p : Place E) (mail unsent outgoing : List (Signed E)) → IsPlace m stop p
       → ((e : E) → messages m e mail + messages m e unsent + messages m e outgoing ≡ messages m e p.mail + messages m e p.unsent + messages m e p.outgoing)
       → ((e : E) → antimessages m e mail + antimessages m e unsent + antimessages m e outgoing ≡ antimessages m e p.mail + antimessages m e p.unsent + antimessages m e p.outgoing)
-      → ((e : E) → 0 < times_among m e mail → p.owns (m.dst e) ≡ true) → Keeps m stop p (record p { mail = mail; unsent = unsent; outgoing = outgoing })
+      → ((e : E) → 0 < times_among m e mail → p.owns (m.dst e) ≡ true) → PreservesPlace m stop p (record p { mail = mail; unsent = unsent; outgoing = outgoing })
   keeps_moved stop p mail unsent outgoing place plus minus own =
       let q : Place E = record p { mail = mail; unsent = unsent; outgoing = outgoing } in
       let same_messages : (e : E) → messages m e (in_hand q) ≡ messages m e (in_hand p) = λ e. (
@@ -124,7 +124,7 @@ abbrev pub is_own : Shard → Signed Event → Bool
 is_own s x = owns s x.event.dst
 
 pub kept_sorted : (stop : ℕ) (s : Share) → IsAtWork stop s
-    → Kept stop s (record { shard = record s.shard { outgoing = [] }; mail = s.mail ++ filter (is_own s.shard) s.shard.outgoing; unsent = s.unsent ++ filter (λ x. not (is_own s.shard x)) s.shard.outgoing })
+    → PreservesShare stop s (record { shard = record s.shard { outgoing = [] }; mail = s.mail ++ filter (is_own s.shard) s.shard.outgoing; unsent = s.unsent ++ filter (λ x. not (is_own s.shard x)) s.shard.outgoing })
 kept_sorted stop s work =
     let m = simulation s.shard.case in
     let law = lawful s.shard.case work.case in
@@ -134,7 +134,7 @@ kept_sorted stop s work =
       case = refl;
       workers = refl;
       routers = refl;
-      keeping = refl;
+      retaining = refl;
       cancel = refl;
       place = keeps_moved m law stop (place_of s) (s.mail ++ own) (s.unsent ++ rest) [] work.place
           (λ e. (
@@ -158,7 +158,7 @@ kept_sorted stop s work =
 
 -- or takes it all, where it is all for its own
 pub kept_taken : (stop : ℕ) (s : Share) → IsAtWork stop s → s.mail ≡ [] → list_all (is_own s.shard) s.shard.outgoing ≡ true
-    → Kept stop s (record { shard = record s.shard { outgoing = [] }; mail = s.shard.outgoing; unsent = s.unsent })
+    → PreservesShare stop s (record { shard = record s.shard { outgoing = [] }; mail = s.shard.outgoing; unsent = s.unsent })
 kept_taken stop s work none own =
     let m = simulation s.shard.case in
     let law = lawful s.shard.case work.case in
@@ -166,7 +166,7 @@ kept_taken stop s work none own =
       case = refl;
       workers = refl;
       routers = refl;
-      keeping = refl;
+      retaining = refl;
       cancel = refl;
       place = keeps_moved m law stop (place_of s) s.shard.outgoing s.unsent [] work.place
           (λ e. (let a = ap (messages m e) none in omega arith))
@@ -175,14 +175,14 @@ kept_taken stop s work none own =
     }
 
 -- or sends it all
-pub kept_sent : (stop : ℕ) (s : Share) → IsAtWork stop s → Kept stop s (record { shard = record s.shard { outgoing = [] }; mail = s.mail; unsent = s.unsent ++ s.shard.outgoing })
+pub kept_sent : (stop : ℕ) (s : Share) → IsAtWork stop s → PreservesShare stop s (record { shard = record s.shard { outgoing = [] }; mail = s.mail; unsent = s.unsent ++ s.shard.outgoing })
 kept_sent stop s work =
     let m = simulation s.shard.case in
     record {
       case = refl;
       workers = refl;
       routers = refl;
-      keeping = refl;
+      retaining = refl;
       cancel = refl;
       place = keeps_moved m (lawful s.shard.case work.case) stop (place_of s) s.mail (s.unsent ++ s.shard.outgoing) [] work.place
           (λ e. (let b = messages-append m e s.unsent s.shard.outgoing in omega arith))

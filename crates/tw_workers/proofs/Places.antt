@@ -13,34 +13,34 @@ use Rattle.tw_model.specs.Case.{Case, IsCase, simulation}
 use Rattle.tw_model.specs.Effect.{suits}
 use Rattle.tw_rule.proofs.Before.{kept_before}
 use Rattle.tw_rule.proofs.Calls.{hand_is_loose, hand_is_own, keeps_handle, keeps_receive, keeps_release, keeps_roll_back, keeps_widen}
-use Rattle.tw_rule.specs.Place.{IsPlace, IsRunBefore, Keeps, with_core}
+use Rattle.tw_rule.specs.Place.{IsPlace, IsRunBefore, PreservesPlace, with_core}
 use Rattle.std.specs.Option.{option_map_or}
 use Rattle.std.specs.Result.{result_and}
 use Rattle.tw_shard.proofs.Leasts.{one_told}
 use Rattle.tw_shard.specs.Arrival.{receiving, refusing}
 use Rattle.tw_shard.specs.declared.rejection.Rejection.{Rejection}
 use Rattle.tw_shard.specs.Roster.{has}
-use Rattle.tw_shard.specs.Shard.{IsSameShare, Shard, core, handling, handling_least, owns, releasing, widening}
+use Rattle.tw_shard.specs.Shard.{IsSameShare, Shard, handling, handling_least, owns, releasing, shard_core, widening}
 use Rattle.tw_sim.specs.declared.machine.Signed.{Signed}
 use Rattle.tw_sim.specs.Ordered.{least}
 use Rattle.tw_table.specs.Shares.{Share, place_of}
-use Rattle.tw_workers.specs.Work.{IsAtWork, Kept}
+use Rattle.tw_workers.specs.Work.{IsAtWork, PreservesShare}
 
 -- ---- the share after a call
 
 -- it is the place whose routers have become another machine
-pub place_after : (stop : ℕ) (s t : Share) → IsSameShare s.shard t.shard → t.mail ≡ s.mail → t.unsent ≡ s.unsent → place_of t ≡ with_core (core stop t.shard) (place_of s)
+pub place_after : (stop : ℕ) (s t : Share) → IsSameShare s.shard t.shard → t.mail ≡ s.mail → t.unsent ≡ s.unsent → place_of t ≡ with_core (shard_core stop t.shard) (place_of s)
 place_after stop s t same mail unsent = λ i. record {
   worker = same.worker i;
   owns = λ r. has (same.routers i) r;
-  history = (core 0 t.shard).history;
+  history = (shard_core 0 t.shard).history;
   pending = t.shard.pending;
   kept = t.shard.kept;
   outgoing = t.shard.outgoing;
   held = t.shard.held;
-  done = (core 0 t.shard).done;
-  past = (core 0 t.shard).past;
-  room = (core 0 t.shard).room;
+  done = (shard_core 0 t.shard).done;
+  past = (shard_core 0 t.shard).past;
+  room = (shard_core 0 t.shard).room;
   bound = t.shard.bound;
   cancel = t.shard.cancel;
   mail = mail i;
@@ -48,7 +48,7 @@ place_after stop s t same mail unsent = λ i. record {
 }
 
 -- what is kept by nothing, and by one call after another
-keeps_same : (stop : ℕ) (s : Share) → IsAtWork stop s → Keeps (simulation s.shard.case) stop (place_of s) (place_of s)
+keeps_same : (stop : ℕ) (s : Share) → IsAtWork stop s → PreservesPlace (simulation s.shard.case) stop (place_of s) (place_of s)
 keeps_same stop s work = record {
   worker = refl;
   owns = refl;
@@ -59,19 +59,19 @@ keeps_same stop s work = record {
   bound = refl;
 }
 
-pub kept_same : (stop : ℕ) (s : Share) → IsAtWork stop s → Kept stop s s
-kept_same stop s work = record { case = refl; workers = refl; routers = refl; keeping = refl; cancel = refl; place = keeps_same stop s work }
+pub kept_same : (stop : ℕ) (s : Share) → IsAtWork stop s → PreservesShare stop s s
+kept_same stop s work = record { case = refl; workers = refl; routers = refl; retaining = refl; cancel = refl; place = keeps_same stop s work }
 
-pub kept_both : (stop : ℕ) (s t u : Share) → Kept stop s t → Kept stop t u → Kept stop s u
+pub kept_both : (stop : ℕ) (s t u : Share) → PreservesShare stop s t → PreservesShare stop t u → PreservesShare stop s u
 kept_both stop s t u one two =
     let m = simulation s.shard.case in
     let first = one.place in
-    let second : Keeps m stop (place_of t) (place_of u) = subst (λ (c : Case). Keeps (simulation c) stop (place_of t) (place_of u)) one.case two.place in
+    let second : PreservesPlace m stop (place_of t) (place_of u) = subst (λ (c : Case). PreservesPlace (simulation c) stop (place_of t) (place_of u)) one.case two.place in
     record {
       case = two.case ∙ one.case;
       workers = two.workers ∙ one.workers;
       routers = two.routers ∙ one.routers;
-      keeping = two.keeping ∙ one.keeping;
+      retaining = two.retaining ∙ one.retaining;
       cancel = two.cancel ∙ one.cancel;
       place = record {
         worker = second.worker ∙ first.worker;
@@ -85,7 +85,7 @@ kept_both stop s t u one two =
     }
 
 -- what its routers have handled before the bound stays the run
-run_kept : (stop : ℕ) (s t : Share) → IsAtWork stop s → Kept stop s t → IsRunBefore (simulation s.shard.case) t.shard.bound (place_of t)
+run_kept : (stop : ℕ) (s t : Share) → IsAtWork stop s → PreservesShare stop s t → IsRunBefore (simulation s.shard.case) t.shard.bound (place_of t)
 run_kept stop s t work kept =
     let m = simulation s.shard.case in
     subst (λ b. IsRunBefore m b (place_of t)) (sym kept.place.bound)
@@ -94,7 +94,7 @@ run_kept stop s t work kept =
     ∙ work.run r l (sym (ap (λ owns. owns r) kept.place.owns) ∙ mine))
 
 -- a worker stays at work
-pub work_kept : (stop : ℕ) (s t : Share) → IsAtWork stop s → Kept stop s t → IsAtWork stop t
+pub work_kept : (stop : ℕ) (s t : Share) → IsAtWork stop s → PreservesShare stop s t → IsAtWork stop t
 work_kept stop s t work kept =
     record {
       case = subst IsCase (sym kept.case) work.case;
@@ -139,65 +139,65 @@ welcome stop s x rest work first =
     rw own (rw not_late (rw suit refl))
 
 -- and so it is received
-may_come : (s : Shard) (x : Signed Event) (stop : ℕ) → refusing s x.event ≡ Ok tt → receiving stop s x ≡ Ok (after_arrival (simulation s.case) (core stop s) x)
-may_come s x stop may = ap (λ o. result_and o (Ok (after_arrival (simulation s.case) (core stop s) x))) may
+may_come : (s : Shard) (x : Signed Event) (stop : ℕ) → refusing s x.event ≡ Ok tt → receiving stop s x ≡ Ok (after_arrival (simulation s.case) (shard_core stop s) x)
+may_come s x stop may = ap (λ o. result_and o (Ok (after_arrival (simulation s.case) (shard_core stop s) x))) may
 
-pub arrived : (s t : Shard) (x : Signed Event) (stop : ℕ) → refusing s x.event ≡ Ok tt → receiving stop s x ≡ Ok (core stop t)
-    → after_arrival (simulation s.case) (core stop s) x ≡ core stop t
+pub arrived : (s t : Shard) (x : Signed Event) (stop : ℕ) → refusing s x.event ≡ Ok tt → receiving stop s x ≡ Ok (shard_core stop t)
+    → after_arrival (simulation s.case) (shard_core stop s) x ≡ shard_core stop t
 arrived s t x stop may came =
-    let same : ◌≡◌ {A = Result (Core Event) Rejection} (Ok (after_arrival (simulation s.case) (core stop s) x)) (Ok (core stop t)) = sym (may_come s x stop may) ∙ came in
+    let same : ◌≡◌ {A = Result (Core Event) Rejection} (Ok (after_arrival (simulation s.case) (shard_core stop s) x)) (Ok (shard_core stop t)) = sym (may_come s x stop may) ∙ came in
     cc same
 
 pub kept_received : (stop : ℕ) (s t : Share) (x : Signed Event) (rest : List (Signed Event)) → IsAtWork stop s → s.mail ≡ x ∷ rest → IsSameShare s.shard t.shard
-    → after_arrival (simulation s.shard.case) (core stop s.shard) x ≡ core stop t.shard → t.mail ≡ rest → t.unsent ≡ s.unsent → Kept stop s t
+    → after_arrival (simulation s.shard.case) (shard_core stop s.shard) x ≡ shard_core stop t.shard → t.mail ≡ rest → t.unsent ≡ s.unsent → PreservesShare stop s t
 kept_received stop s t x rest work first same came mail unsent =
     let m = simulation s.shard.case in
     let there : slice_get s.mail 0 ≡ Some x = ap (λ l. slice_get l 0) first in
     let left : remove s.mail 0 ≡ rest = ap (λ l. remove l 0) first in
     let mid : Share = record s { mail = rest } in
     let keeps = keeps_receive m (lawful s.shard.case work.case) stop 0 (place_of s) x work.place there in
-    let arrived : with_core (after_arrival m (core stop s.shard) x) (record (place_of s) { mail = remove s.mail 0 }) ≡ with_core (core stop t.shard) (place_of mid)
+    let arrived : with_core (after_arrival m (shard_core stop s.shard) x) (record (place_of s) { mail = remove s.mail 0 }) ≡ with_core (shard_core stop t.shard) (place_of mid)
     = λ i. with_core (came i) (record (place_of s) { mail = left i }) in
     let made = arrived ∙ sym (place_after stop mid t same mail unsent) in
-    record { case = same.case; workers = same.workers; routers = same.routers; keeping = same.keeps; cancel = same.cancel; place = subst (Keeps m stop (place_of s)) made keeps }
+    record { case = same.case; workers = same.workers; routers = same.routers; retaining = same.retains; cancel = same.cancel; place = subst (PreservesPlace m stop (place_of s)) made keeps }
 
 -- some of what it undoes is undone, and it is in the hand still
 pub kept_rolled_back : (stop : ℕ) (s t : Share) (x : Signed Event) (rest : List (Signed Event)) → IsAtWork stop s → s.mail ≡ x ∷ rest → IsSameShare s.shard t.shard
-    → IsRolledBack (simulation s.shard.case) x.event (core stop s.shard) (core stop t.shard) → t.mail ≡ s.mail → t.unsent ≡ s.unsent → Kept stop s t
+    → IsRolledBack (simulation s.shard.case) x.event (shard_core stop s.shard) (shard_core stop t.shard) → t.mail ≡ s.mail → t.unsent ≡ s.unsent → PreservesShare stop s t
 kept_rolled_back stop s t x rest work first same back mail unsent =
     let m = simulation s.shard.case in
     let there : slice_get s.mail 0 ≡ Some x = ap (λ l. slice_get l 0) first in
-    let keeps = keeps_roll_back m (lawful s.shard.case work.case) stop 0 (place_of s) x (core stop t.shard) work.place there back in
-    record { case = same.case; workers = same.workers; routers = same.routers; keeping = same.keeps; cancel = same.cancel; place = subst (Keeps m stop (place_of s)) (sym (place_after stop s t same mail unsent)) keeps }
+    let keeps = keeps_roll_back m (lawful s.shard.case work.case) stop 0 (place_of s) x (shard_core stop t.shard) work.place there back in
+    record { case = same.case; workers = same.workers; routers = same.routers; retaining = same.retains; cancel = same.cancel; place = subst (PreservesPlace m stop (place_of s)) (sym (place_after stop s t same mail unsent)) keeps }
 
 -- ---- a router handles
 
 -- only its own routers do
-own_of : (stop r : ℕ) (s t : Shard) → handling stop s r ≡ Ok (core stop t) → owns s r ≡ true
+own_of : (stop r : ℕ) (s t : Shard) → handling stop s r ≡ Ok (shard_core stop t) → owns s r ≡ true
 own_of stop r s t done =
     elim (cases_Bool (owns s r)) [
       | inl own ↦ own
       | inr other ↦
           let m = simulation s.case in
-          let refused : handling stop s r ≡ Err NotMine = ap (λ b. if b then handle m (core stop s) r (first_pending m (core stop s) r) else Err NotMine) other in
+          let refused : handling stop s r ≡ Err NotMine = ap (λ b. if b then handle m (shard_core stop s) r (first_pending m (shard_core stop s) r) else Err NotMine) other in
           absurd (cc (refused, done))
     ]
 
-pub kept_handled : (stop r : ℕ) (s t : Share) → IsAtWork stop s → IsSameShare s.shard t.shard → handling stop s.shard r ≡ Ok (core stop t.shard) → t.mail ≡ s.mail → t.unsent ≡ s.unsent
-    → Kept stop s t
+pub kept_handled : (stop r : ℕ) (s t : Share) → IsAtWork stop s → IsSameShare s.shard t.shard → handling stop s.shard r ≡ Ok (shard_core stop t.shard) → t.mail ≡ s.mail → t.unsent ≡ s.unsent
+    → PreservesShare stop s t
 kept_handled stop r s t work same done mail unsent =
     let m = simulation s.shard.case in
-    let next = handle m (core stop s.shard) r (first_pending m (core stop s.shard) r) in
+    let next = handle m (shard_core stop s.shard) r (first_pending m (shard_core stop s.shard) r) in
     let own = own_of stop r s.shard t.shard done in
-    let at_own : next ≡ Ok (core stop t.shard) = sym (ap (λ b. if b then next else Err NotMine) own) ∙ done in
-    let keeps = keeps_handle m (lawful s.shard.case work.case) stop r (place_of s) (core stop t.shard) work.place at_own in
-    record { case = same.case; workers = same.workers; routers = same.routers; keeping = same.keeps; cancel = same.cancel; place = subst (Keeps m stop (place_of s)) (sym (place_after stop s t same mail unsent)) keeps }
+    let at_own : next ≡ Ok (shard_core stop t.shard) = sym (ap (λ b. if b then next else Err NotMine) own) ∙ done in
+    let keeps = keeps_handle m (lawful s.shard.case work.case) stop r (place_of s) (shard_core stop t.shard) work.place at_own in
+    record { case = same.case; workers = same.workers; routers = same.routers; retaining = same.retains; cancel = same.cancel; place = subst (PreservesPlace m stop (place_of s)) (sym (place_after stop s t same mail unsent)) keeps }
 
 -- and where the least of all pending events is handled
-pub kept_least : (stop : ℕ) (s t : Share) → IsAtWork stop s → IsSameShare s.shard t.shard → handling_least stop s.shard ≡ Ok (core stop t.shard) → t.mail ≡ s.mail → t.unsent ≡ s.unsent
-    → Kept stop s t
+pub kept_least : (stop : ℕ) (s t : Share) → IsAtWork stop s → IsSameShare s.shard t.shard → handling_least stop s.shard ≡ Ok (shard_core stop t.shard) → t.mail ≡ s.mail → t.unsent ≡ s.unsent
+    → PreservesShare stop s t
 kept_least stop s t work same done mail unsent =
-    let told = one_told stop s.shard (Ok (core stop t.shard)) done (λ none. cc none) in
+    let told = one_told stop s.shard (Ok (shard_core stop t.shard)) done (λ none. cc none) in
     kept_handled stop told.0 s t work same told.1 mail unsent
 
 -- a router that has no room is one of its own
@@ -207,7 +207,7 @@ own_full stop r s full =
       | inl own ↦ own
       | inr other ↦
           let m = simulation s.case in
-          let refused : handling stop s r ≡ Err NotMine = ap (λ b. if b then handle m (core stop s) r (first_pending m (core stop s) r) else Err NotMine) other in
+          let refused : handling stop s r ≡ Err NotMine = ap (λ b. if b then handle m (shard_core stop s) r (first_pending m (shard_core stop s) r) else Err NotMine) other in
           absurd (cc (refused, full))
     ]
 
@@ -221,53 +221,53 @@ own_least time s e first full =
     ]
 
 -- a router of its own has more room
-pub kept_widened : (stop r : ℕ) (s : Share) (t : Shard) → IsAtWork stop s → IsSameShare s.shard t → owns s.shard r ≡ true → widening stop s.shard r ≡ Ok (core stop t)
-    → Kept stop s (record s { shard = t })
+pub kept_widened : (stop r : ℕ) (s : Share) (t : Shard) → IsAtWork stop s → IsSameShare s.shard t → owns s.shard r ≡ true → widening stop s.shard r ≡ Ok (shard_core stop t)
+    → PreservesShare stop s (record s { shard = t })
 kept_widened stop r s t work same own done =
     let m = simulation s.shard.case in
-    let wide : Result (Core Event) Refusal = Ok (with_room m (core stop s.shard) r) in
-    let at_own : wide ≡ Ok (core stop t) = sym (ap (λ b. if b then wide else Err NotMine) own) ∙ done in
-    let reached : with_room m (core stop s.shard) r ≡ core stop t = cc at_own in
-    let made : with_core (with_room m (core stop s.shard) r) (place_of s) ≡ place_of (record s { shard = t })
+    let wide : Result (Core Event) Refusal = Ok (with_room m (shard_core stop s.shard) r) in
+    let at_own : wide ≡ Ok (shard_core stop t) = sym (ap (λ b. if b then wide else Err NotMine) own) ∙ done in
+    let reached : with_room m (shard_core stop s.shard) r ≡ shard_core stop t = cc at_own in
+    let made : with_core (with_room m (shard_core stop s.shard) r) (place_of s) ≡ place_of (record s { shard = t })
     = (λ i. with_core (reached i) (place_of s)) ∙ sym (place_after stop s (record s { shard = t }) same refl refl) in
     record {
       case = same.case;
       workers = same.workers;
       routers = same.routers;
-      keeping = same.keeps;
+      retaining = same.retains;
       cancel = same.cancel;
-      place = subst (Keeps m stop (place_of s)) made (keeps_widen m (lawful s.shard.case work.case) stop r (place_of s) work.place);
+      place = subst (PreservesPlace m stop (place_of s)) made (keeps_widen m (lawful s.shard.case work.case) stop r (place_of s) work.place);
     }
 
 -- what is held for a router of its own is taken back
-pub kept_released : (stop r : ℕ) (s : Share) (t : Shard) → IsAtWork stop s → IsSameShare s.shard t → owns s.shard r ≡ true → releasing stop s.shard r ≡ Ok (core stop t)
-    → Kept stop s (record s { shard = t })
+pub kept_released : (stop r : ℕ) (s : Share) (t : Shard) → IsAtWork stop s → IsSameShare s.shard t → owns s.shard r ≡ true → releasing stop s.shard r ≡ Ok (shard_core stop t)
+    → PreservesShare stop s (record s { shard = t })
 kept_released stop r s t work same own done =
     let m = simulation s.shard.case in
-    let less : Result (Core Event) Refusal = Ok (with_release m (core stop s.shard) r) in
-    let at_own : less ≡ Ok (core stop t) = sym (ap (λ b. if b then less else Err NotMine) own) ∙ done in
-    let reached : with_release m (core stop s.shard) r ≡ core stop t = cc at_own in
-    let made : with_core (with_release m (core stop s.shard) r) (place_of s) ≡ place_of (record s { shard = t })
+    let less : Result (Core Event) Refusal = Ok (with_release m (shard_core stop s.shard) r) in
+    let at_own : less ≡ Ok (shard_core stop t) = sym (ap (λ b. if b then less else Err NotMine) own) ∙ done in
+    let reached : with_release m (shard_core stop s.shard) r ≡ shard_core stop t = cc at_own in
+    let made : with_core (with_release m (shard_core stop s.shard) r) (place_of s) ≡ place_of (record s { shard = t })
     = (λ i. with_core (reached i) (place_of s)) ∙ sym (place_after stop s (record s { shard = t }) same refl refl) in
     record {
       case = same.case;
       workers = same.workers;
       routers = same.routers;
-      keeping = same.keeps;
+      retaining = same.retains;
       cancel = same.cancel;
-      place = subst (Keeps m stop (place_of s)) made (keeps_release m (lawful s.shard.case work.case) stop r (place_of s) work.place);
+      place = subst (PreservesPlace m stop (place_of s)) made (keeps_release m (lawful s.shard.case work.case) stop r (place_of s) work.place);
     }
 
 -- which is not refused
 pub no_release_refusal : (stop : ℕ) (s : Shard) (r : ℕ) (f : Refusal) → owns s r ≡ true → releasing stop s r ≡ Err f → ⊥
 no_release_refusal stop s r f own refused =
-    let done : releasing stop s r ≡ Ok (with_release (simulation s.case) (core stop s) r) =
-    ap (λ b. if b then Ok (with_release (simulation s.case) (core stop s) r) else Err NotMine) own in
+    let done : releasing stop s r ≡ Ok (with_release (simulation s.case) (shard_core stop s) r) =
+    ap (λ b. if b then Ok (with_release (simulation s.case) (shard_core stop s) r) else Err NotMine) own in
     cc (done, refused)
 
 -- it is not refused
 pub no_widening_refusal : (stop : ℕ) (s : Shard) (r : ℕ) (f : Refusal) → owns s r ≡ true → widening stop s r ≡ Err f → ⊥
 no_widening_refusal stop s r f own refused =
-    let done : widening stop s r ≡ Ok (with_room (simulation s.case) (core stop s) r) =
-    ap (λ b. if b then Ok (with_room (simulation s.case) (core stop s) r) else Err NotMine) own in
+    let done : widening stop s r ≡ Ok (with_room (simulation s.case) (shard_core stop s) r) =
+    ap (λ b. if b then Ok (with_room (simulation s.case) (shard_core stop s) r) else Err NotMine) own in
     cc (done, refused)

@@ -19,7 +19,7 @@ use Rattle.tw_rule.proofs.Places.{all_at, get_map}
 use Rattle.tw_rule.proofs.Visits.{may_stay, may_visit, report_late, tells_all, unsent_late, unsent_suits}
 use Rattle.tw_rule.specs.Board as rule
 use Rattle.tw_rule.specs.Board.{IsVisit, least_report, times_among}
-use Rattle.tw_rule.specs.Place.{Keeps, Tells, after_visit, report_time}
+use Rattle.tw_rule.specs.Place.{PreservesPlace, Tells, after_visit, report_time}
 use Rattle.tw_rule.specs.Rule.{MayGive, Stands}
 use Rattle.tw_shard.specs.Shard.{Shard}
 use Rattle.tw_sim.proofs.Counts.{one_self}
@@ -33,7 +33,7 @@ use Rattle.tw_table.specs.Shares.{IsRuled, MayBeGiven, Share, board_of, place_of
 use Rattle.tw_table.specs.Views.{IsMet}
 use Rattle.tw_workers.proofs.Moves.{of_one_sign}
 use Rattle.tw_workers.proofs.Places.{before_no}
-use Rattle.tw_workers.specs.Work.{IsAtWork, Kept}
+use Rattle.tw_workers.specs.Work.{IsAtWork, PreservesShare}
 
 -- ---- the exchange that a worker has met
 
@@ -58,12 +58,12 @@ here : (x : Board) (s : Share) → IsMet (s ∷ []) x → IsHere x s
 here x s met = here_at met.case x s met.ruled.cases.0 met.ruled.is_case met.ruled.rule.board met.ruled.rule.each.0 met.ruled.rule.routers
 
 -- what was kept to a worker's stop was kept to the board's
-keeps_here : (x : Board) (stop : ℕ) (s q : Share) → x.stop ≡ stop → Kept stop s q → Keeps (simulation s.shard.case) (board_of x).stop (place_of s) (place_of q)
-keeps_here x stop s q same kept = subst (λ n. Keeps (simulation s.shard.case) n (place_of s) (place_of q)) (sym same) kept.place
+keeps_here : (x : Board) (stop : ℕ) (s q : Share) → x.stop ≡ stop → PreservesShare stop s q → PreservesPlace (simulation s.shard.case) (board_of x).stop (place_of s) (place_of q)
+keeps_here x stop s q same kept = subst (λ n. PreservesPlace (simulation s.shard.case) n (place_of s) (place_of q)) (sym same) kept.place
 
 -- ---- without a visit
 
-pub stayed_given : (x y : Board) (stop : ℕ) (s q : Share) → IsMet (s ∷ []) x → x.stop ≡ stop → Kept stop s q → board_of y ≡ board_of x → MayBeGiven x s y q
+pub stayed_given : (x y : Board) (stop : ℕ) (s q : Share) → IsMet (s ∷ []) x → x.stop ≡ stop → PreservesShare stop s q → board_of y ≡ board_of x → MayBeGiven x s y q
 stayed_given x y stop s q met same kept as_before =
     let at = here x s met in
     let m = simulation s.shard.case in
@@ -104,13 +104,13 @@ told_is case q none =
     ap (λ xs. least_report (simulation case) (told_of q) xs) none ∙ none_told (simulation case) (told_of q)
 
 -- it is never early
-told_late : (x : Board) (stop : ℕ) (s q : Share) → IsMet (s ∷ []) x → x.stop ≡ stop → Kept stop s q → q.mail ≡ [] → IfSome (told_of q) (λ time. x.bound ≤ time)
+told_late : (x : Board) (stop : ℕ) (s q : Share) → IsMet (s ∷ []) x → x.stop ≡ stop → PreservesShare stop s q → q.mail ≡ [] → IfSome (told_of q) (λ time. x.bound ≤ time)
 told_late x stop s q met same kept none =
     let at = here x s met in
     subst (λ o. IfSome o (λ time. x.bound ≤ time)) (told_is s.shard.case q none)
     (report_late (simulation s.shard.case) (lawful s.shard.case at.is_case) (who x) (board_of x) (place_of s) (place_of q) at.board at.stands (keeps_here x stop s q same kept))
 
-pub not_early : (x : Board) (stop : ℕ) (s q : Share) → IsMet (s ∷ []) x → x.stop ≡ stop → Kept stop s q → q.mail ≡ [] → is_early q.unsent (told_of q) x ≡ false
+pub not_early : (x : Board) (stop : ℕ) (s q : Share) → IsMet (s ∷ []) x → x.stop ≡ stop → PreservesShare stop s q → q.mail ≡ [] → is_early q.unsent (told_of q) x ≡ false
 not_early x stop s q met same kept none =
     let at = here x s met in
     let m = simulation s.shard.case in
@@ -121,7 +121,7 @@ not_early x stop s q met same kept none =
     (λ e h. unsent_late m law (who x) (board_of x) (place_of s) (place_of q) e at.board at.stands (keeps_here x stop s q same kept) h))
 
 -- and what is unsent has workers
-pub not_homeless : (x : Board) (stop : ℕ) (s q : Share) → IsMet (s ∷ []) x → x.stop ≡ stop → Kept stop s q → is_homeless q.unsent x ≡ false
+pub not_homeless : (x : Board) (stop : ℕ) (s q : Share) → IsMet (s ∷ []) x → x.stop ≡ stop → PreservesShare stop s q → is_homeless q.unsent x ≡ false
 not_homeless x stop s q met same kept =
     let at = here x s met in
     let case = s.shard.case in
@@ -155,7 +155,7 @@ place_told x y s q t is none =
     let same : left ≡ t = λ i. record { shard = sym is.shard i; mail = sym is.mail i; unsent = sym is.unsent i } in
     ap (λ l. record (place_of left) { mail = l ++ mail }) none ∙ ap place_of same
 
-pub visited_whole : (x y : Board) (stop : ℕ) (s q t : Share) → IsMet (s ∷ []) x → IsBoard x → x.stop ≡ stop → Kept stop s q → q.mail ≡ [] → q.shard.outgoing ≡ [] → x.bound ≤ y.bound
+pub visited_whole : (x y : Board) (stop : ℕ) (s q t : Share) → IsMet (s ∷ []) x → IsBoard x → x.stop ≡ stop → PreservesShare stop s q → q.mail ≡ [] → q.shard.outgoing ≡ [] → x.bound ≤ y.bound
     → IsVisited x y s q t → IsGiven x s y t
 visited_whole x y stop s q t met board same kept none sorted rises is =
     let at = here x s met in
@@ -180,7 +180,7 @@ visited_whole x y stop s q t met board same kept none sorted rises is =
       give = subst (MayGive m (who x) (board_of x) (place_of s) (board_of y)) (place_told x y s q t is none) may;
     }
 
-pub visited_given : (x y : Board) (stop : ℕ) (s q t : Share) → IsMet (s ∷ []) x → IsBoard x → x.stop ≡ stop → Kept stop s q → q.mail ≡ [] → q.shard.outgoing ≡ [] → x.bound ≤ y.bound
+pub visited_given : (x y : Board) (stop : ℕ) (s q t : Share) → IsMet (s ∷ []) x → IsBoard x → x.stop ≡ stop → PreservesShare stop s q → q.mail ≡ [] → q.shard.outgoing ≡ [] → x.bound ≤ y.bound
     → IsVisited x y s q t → MayBeGiven x s y t
 visited_given x y stop s q t met board same kept none sorted rises is =
     let whole = visited_whole x y stop s q t met board same kept none sorted rises is in

@@ -4,8 +4,8 @@ use Rattle.std.specs.List.{AllZip}
 use Rattle.tw_core.specs.declared.refusal.Refusal.TheVariants as refusal
 use Rattle.tw_event.specs.declared.event.Event.{Event}
 use Rattle.tw_model.specs.Case.{IsCase, simulation}
-use Rattle.tw_rule.specs.Place.{IsPlace, IsRunBefore, Keeps}
-use Rattle.tw_shard.specs.Shard.{IsSameShare, Shard, core, handling, owns}
+use Rattle.tw_rule.specs.Place.{IsPlace, IsRunBefore, PreservesPlace}
+use Rattle.tw_shard.specs.Shard.{IsSameShare, Shard, handling, owns, shard_core}
 use Rattle.tw_sim.specs.Simulation.{times}
 use Rattle.tw_table.specs.Shares.{Share, place_of}
 
@@ -24,17 +24,17 @@ pub record IsAtWork (stop : ℕ) (s : Share) : Type 0 where
   pub run : IsRunBefore (simulation s.shard.case) s.shard.bound (place_of s)
 
 -- what calls at a worker, to this stop, keep of its share
-pub record Kept (stop : ℕ) (s t : Share) : Type 0 where
+pub record PreservesShare (stop : ℕ) (s t : Share) : Type 0 where
   pub case : t.shard.case ≡ s.shard.case
   -- there are as many workers
   pub workers : t.shard.workers ≡ s.shard.workers
   -- it has the same routers, in the same order
   pub routers : t.shard.routers ≡ s.shard.routers
-  -- its routers keep their committed events, or let them go, as before
-  pub keeping : t.shard.keeps ≡ s.shard.keeps
+  -- its routers retain their committed events, or let them go, as before
+  pub retaining : t.shard.retains ≡ s.shard.retains
   -- and it takes back what undone events have sent as before
   pub cancel : t.shard.cancel ≡ s.shard.cancel
-  pub place : Keeps (simulation s.shard.case) stop (place_of s) (place_of t)
+  pub place : PreservesPlace (simulation s.shard.case) stop (place_of s) (place_of t)
 
 -- a worker with this share has no router, and no message to deliver or to send
 pub record IsIdle (s : Share) : Type 0 where
@@ -49,7 +49,7 @@ IsFull stop shard = (r : ℕ) × (handling stop shard r ≡ Err refusal.CounterF
 
 -- its routers have committed all before its stop
 abbrev pub HasCommitted : Worker → Type 0
-HasCommitted w = (r : ℕ) → owns w.share.shard r ≡ true → (core 0 w.share.shard).done r ≡ w.stop
+HasCommitted w = (r : ℕ) → owns w.share.shard r ≡ true → (shard_core 0 w.share.shard).done r ≡ w.stop
 
 -- a held message may be sent again: its sender has an event pending that is before it, and before the stop
 pub record IsAwaited (stop : ℕ) (s : Shard) (e : Event) : Type 0 where
@@ -68,10 +68,10 @@ abbrev pub AreAwaited : ℕ → Shard → Type 0
 AreAwaited stop s = (e : Event) → 0 < times (simulation s.case) e s.held → IsAwaited stop s e
 
 -- what a worker has kept since any share, it still has later
-abbrev pub StillKeeps : Worker → Worker → Type 0
-StillKeeps v w = (s : Share) → Kept v.stop s v.share → Kept w.stop s w.share
+abbrev pub StillPreserves : Worker → Worker → Type 0
+StillPreserves v w = (s : Share) → PreservesShare v.stop s v.share → PreservesShare w.stop s w.share
 
--- the same worker later: for the same case, with the same routers among as many workers, which keep as much, and with the same stop
+-- the same worker later: for the same case, with the same routers among as many workers, which retain as much, and with the same stop
 pub record IsSameWorker (v w : Worker) : Type 0 where
   pub shard : IsSameShare v.share.shard w.share.shard
   pub stop : w.stop ≡ v.stop

@@ -2,8 +2,8 @@
 ghost use Rattle.std.specs.Prelude.{ℕ, ◌≡◌, ◌<◌, false, true, OnErr, OnOk};
 ghost use Rattle.tw_core.specs.Steps.{with_commit};
 ghost use Rattle.tw_model.specs.Case.{simulation};
-ghost use Rattle.tw_shard.specs.Shard.{HasRun, IsSameShare, core, owns};
-ghost use Rattle.tw_workers.specs.Work.{StillKeeps};
+ghost use Rattle.tw_shard.specs.Shard.{FollowsRun, IsSameShare, owns, shard_core};
+ghost use Rattle.tw_workers.specs.Work.{StillPreserves};
 
 use crate::worker::Worker;
 use std::alloc::AllocError;
@@ -17,9 +17,9 @@ impl<'a> Worker<'a> {
     ///
     /// For want of memory it is broken off, and those of some routers are committed.
     pub fn commit(&mut self) -> Result<(), AllocError>
-        ensures kept { StillKeeps self.old self.new }
+        ensures preserved { StillPreserves self.old self.new }
         ensures done { OnOk result ((r : ℕ) → owns self.new.share.shard r ≡ true
-            → (core 0 self.new.share.shard).done r ≡ self.new.share.shard.bound) }
+            → (shard_core 0 self.new.share.shard).done r ≡ self.new.share.shard.bound) }
         ensures mail { self.new.share.mail ≡ self.old.share.mail }
         ensures unsent { self.new.share.unsent ≡ self.old.share.unsent }
         ensures outgoing { self.new.share.shard.outgoing ≡ self.old.share.shard.outgoing }
@@ -36,8 +36,8 @@ impl<'a> Worker<'a> {
 /// One of a shard's routers commits its events before the bound, which are the one-thread run.
 pub(crate) fn commit_at(shard: &mut Shard<'_>, router: u32) -> Result<(), AllocError>
     requires own { owns shard.old router ≡ true }
-    requires run { router < shard.old.case.net.nodes → HasRun shard.old router }
-    ensures ok { (stop : ℕ) → OnOk result (core stop shard.new ≡ with_commit (simulation shard.old.case) (core stop shard.old) router) }
+    requires run { router < shard.old.case.net.nodes → FollowsRun shard.old router }
+    ensures ok { (stop : ℕ) → OnOk result (shard_core stop shard.new ≡ with_commit (simulation shard.old.case) (shard_core stop shard.old) router) }
     ensures err { OnErr result (shard.new ≡ shard.old) }
     ensures same { IsSameShare shard.old shard.new }
 {

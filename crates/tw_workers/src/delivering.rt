@@ -1,7 +1,7 @@
 //! What is in a worker's hand comes to its routers.
 ghost use Rattle.std.specs.Prelude.{◌≡◌, ◌<◌, ◌+◌, [], ℕ, OnErr, OnOk, length};
 ghost use Rattle.tw_table.specs.Shares.{share};
-ghost use Rattle.tw_workers.specs.Work.{IsAtWork, Kept, StillKeeps};
+ghost use Rattle.tw_workers.specs.Work.{IsAtWork, PreservesShare, StillPreserves};
 
 use crate::worker::Worker;
 use std::alloc::AllocError;
@@ -14,7 +14,7 @@ impl<'a> Worker<'a> {
     /// For want of memory it is broken off: the message that met it is in the hand still, and those
     /// before it are received.
     pub fn deliver(&mut self) -> Result<(), AllocError>
-        ensures kept { StillKeeps self.old self.new }
+        ensures preserved { StillPreserves self.old self.new }
         ensures empty { OnOk result (self.new.share.mail ≡ []) }
         ensures unsent { self.new.share.unsent ≡ self.old.share.unsent }
         ensures stop { self.new.stop ≡ self.old.stop }
@@ -36,7 +36,7 @@ impl<'a> Worker<'a> {
 fn receive_next(shard: &mut Shard<'_>, hand: &mut Hand) -> Result<(), AllocError>
     requires some { hand.old.next < length hand.old.mail.items }
     requires work { (stop : ℕ) × IsAtWork stop (share shard.old hand.old) }
-    ensures kept { (stop : ℕ) → IsAtWork stop (share shard.old hand.old) → Kept stop (share shard.old hand.old) (share shard.new hand.new) }
+    ensures preserved { (stop : ℕ) → IsAtWork stop (share shard.old hand.old) → PreservesShare stop (share shard.old hand.old) (share shard.new hand.new) }
     ensures mail { hand.new.mail ≡ hand.old.mail }
     ensures unsent { hand.new.out ≡ hand.old.out }
     ensures next { OnOk result (hand.new.next ≡ hand.old.next + 1) }

@@ -5,7 +5,7 @@ ghost use Rattle.std.specs.Prelude.{◌≡◌, ◌++◌, ◌≤◌, ◌+◌, [],
 ghost use Rattle.tw_handlers.specs.Calls.{counter_full};
 ghost use Rattle.tw_model.specs.declared.memory.OrMemory.TheVariants as or_memory;
 ghost use Rattle.tw_shard.specs.Shard.{owns};
-ghost use Rattle.tw_workers.specs.Work.{AreAwaited, IsFull, StillKeeps};
+ghost use Rattle.tw_workers.specs.Work.{AreAwaited, IsFull, StillPreserves};
 
 use crate::worker::Worker;
 use std::alloc::AllocError;
@@ -26,7 +26,7 @@ impl<'a> Worker<'a> {
     /// It is refused as `CounterFull` where a counter of a router would pass its limit. For that and for
     /// want of memory it is broken off, and what was done before stands.
     pub fn handle_some(&mut self) -> Result<(), OrMemory<CounterFull>>
-        ensures kept { StillKeeps self.old self.new }
+        ensures preserved { StillPreserves self.old self.new }
         ensures empty { OnOk result (self.new.share.mail ≡ []) }
         ensures sorted { OnOk result (self.new.share.shard.outgoing ≡ []) }
         ensures full { IsErrOf result (or_memory.Fault counter_full) → IsFull self.new.stop self.new.share.shard }
@@ -46,7 +46,7 @@ impl<'a> Worker<'a> {
     fn handle_and_release(&mut self, limit: u64) -> Result<bool, OrMemory<CounterFull>>
         requires mail { self.old.share.mail ≡ [] }
         requires limit { limit ≤ self.old.stop }
-        ensures kept { StillKeeps self.old self.new }
+        ensures preserved { StillPreserves self.old self.new }
         ensures empty { OnOk result (self.new.share.mail ≡ []) }
         ensures awaited { OnOk result (AreAwaited self.new.stop self.new.share.shard) }
         ensures full { IsErrOf result (or_memory.Fault counter_full) → IsFull self.new.stop self.new.share.shard }
@@ -63,7 +63,7 @@ impl<'a> Worker<'a> {
     fn handle_until(&mut self, limit: u64) -> Result<bool, OrMemory<CounterFull>>
         requires mail { self.old.share.mail ≡ [] }
         requires limit { limit ≤ self.old.stop }
-        ensures kept { StillKeeps self.old self.new }
+        ensures preserved { StillPreserves self.old self.new }
         ensures empty { OnOk result (self.new.share.mail ≡ []) }
         ensures full { IsErrOf result (or_memory.Fault counter_full) → IsFull self.new.stop self.new.share.shard }
         ensures stop { self.new.stop ≡ self.old.stop }
@@ -95,7 +95,7 @@ impl<'a> Worker<'a> {
     /// What its routers have sent is sorted: what is for them comes to them.
     fn receive_own(&mut self) -> Result<(), AllocError>
         requires { self.old.share.mail ≡ [] }
-        ensures kept { StillKeeps self.old self.new }
+        ensures preserved { StillPreserves self.old self.new }
         ensures empty { OnOk result (self.new.share.mail ≡ []) }
         ensures stop { self.new.stop ≡ self.old.stop }
     {
@@ -111,7 +111,7 @@ impl<'a> Worker<'a> {
     fn take_own(&mut self)
         requires mail { self.old.share.mail ≡ [] }
         requires own { list_all (λ m. owns self.old.share.shard m.event.dst) self.old.share.shard.outgoing ≡ true }
-        ensures kept { StillKeeps self.old self.new }
+        ensures preserved { StillPreserves self.old self.new }
         ensures stop { self.new.stop ≡ self.old.stop }
     {
         self.hand.mail.clear();
@@ -123,7 +123,7 @@ impl<'a> Worker<'a> {
     /// is for others as unsent.
     fn sort_out(&mut self) -> Result<(), AllocError>
         requires { self.old.share.mail ≡ [] }
-        ensures kept { StillKeeps self.old self.new }
+        ensures preserved { StillPreserves self.old self.new }
         ensures stop { self.new.stop ≡ self.old.stop }
     {
         let count = self.shard.outgoing().len();
@@ -139,7 +139,7 @@ impl<'a> Worker<'a> {
 
     /// What its routers have sent is unsent, whomever it is for.
     fn send_rest(&mut self) -> Result<(), AllocError>
-        ensures kept { StillKeeps self.old self.new }
+        ensures preserved { StillPreserves self.old self.new }
         ensures mail { self.new.share.mail ≡ self.old.share.mail }
         ensures sorted { OnOk result (self.new.share.shard.outgoing ≡ []) }
         ensures stop { self.new.stop ≡ self.old.stop }
@@ -156,7 +156,7 @@ impl<'a> Worker<'a> {
     /// worker goes on.
     fn handle_before(&mut self, limit: u64) -> Result<bool, OrMemory<CounterFull>>
         requires { limit ≤ self.old.stop }
-        ensures kept { StillKeeps self.old self.new }
+        ensures preserved { StillPreserves self.old self.new }
         ensures full { IsErrOf result (or_memory.Fault counter_full) → IsFull self.new.stop self.new.share.shard }
         ensures mail { self.new.share.mail ≡ self.old.share.mail }
         ensures stop { self.new.stop ≡ self.old.stop }

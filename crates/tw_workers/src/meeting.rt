@@ -5,13 +5,13 @@ ghost use Rattle.tw_exchange.specs.declared.visit.VisitFault.TheVariants.{Early,
 ghost use Rattle.tw_model.specs.Case.{simulation};
 ghost use Rattle.tw_model.specs.declared.memory.OrMemory.TheVariants as or_memory;
 ghost use Rattle.tw_rule.specs.Place.{report_time};
-ghost use Rattle.tw_shard.specs.Shard.{IsSameShare, core};
+ghost use Rattle.tw_shard.specs.Shard.{IsSameShare, shard_core};
 ghost use Rattle.tw_table.specs.Seats.{IsSameSeat, IsSeatOf, bound_at, exchange_of, halted_at, report_at, share_at, share_of, stop_at, taken_by, was_halted_at};
 ghost use Rattle.tw_table.specs.Shares.{MayBeGiven, board_of, place_of, share};
 ghost use Rattle.tw_table.specs.Views.{IsMet};
 ghost use Rattle.tw_workers.specs.declared.working.Leaving.TheVariants as leaving;
 ghost use Rattle.tw_workers.specs.Seated.{HasTurned};
-ghost use Rattle.tw_workers.specs.Work.{IsAtWork, Kept};
+ghost use Rattle.tw_workers.specs.Work.{IsAtWork, PreservesShare};
 
 use crate::worker::Worker;
 use crate::working::Leaving;
@@ -30,13 +30,13 @@ impl<'a> Worker<'a> {
     /// workers to take no further turn. Its visit is never refused as early, nor for a router without a worker.
     pub fn meet<R: Wait>(&mut self, rt: &R, table: &Table, seat: Seat) -> (Seat, Option<Leaving>)
         requires seat { IsSeatOf table.now seat }
-        requires kept { Kept self.old.stop (share_at seat) self.old.share }
+        requires preserved { PreservesShare self.old.stop (share_at seat) self.old.share }
         requires stop { stop_at seat ≡ self.old.stop }
         requires delivered { self.old.share.mail ≡ [] }
         requires sorted { self.old.share.shard.outgoing ≡ [] }
         ensures turned { HasTurned table.now seat result.0 self.old self.new }
-        ensures kept { Kept self.new.stop (share_at result.0) self.new.share }
-        ensures done { (r : ℕ) → (core 0 self.new.share.shard).done r ≡ (core 0 self.old.share.shard).done r }
+        ensures preserved { PreservesShare self.new.stop (share_at result.0) self.new.share }
+        ensures done { (r : ℕ) → (shard_core 0 self.new.share.shard).done r ≡ (shard_core 0 self.old.share.shard).done r }
         ensures held { self.new.share.shard.held ≡ self.old.share.shard.held }
         ensures told { (result.1 ≡ Some leaving.Memory → ⊥) → self.new.share.shard.bound ≡ bound_at result.0 }
         ensures sent { (result.1 ≡ Some leaving.Memory → ⊥) → self.new.share.unsent ≡ [] }
@@ -70,7 +70,7 @@ impl<'a> Worker<'a> {
     /// seat is its own, at this table, and what it gave there last has been kept since.
     pub fn leave<R: Wait>(&self, rt: &R, table: &Table, seat: Seat) -> Seat
         requires seat { IsSeatOf table.now seat }
-        requires kept { Kept self.now.stop (share_at seat) self.now.share }
+        requires preserved { PreservesShare self.now.stop (share_at seat) self.now.share }
         requires stop { stop_at seat ≡ self.now.stop }
         ensures turned { HasTurned table.now seat result self.now self.now }
         ensures halts { halted_at result ≡ true }
@@ -96,7 +96,7 @@ fn visit(
     requires fresh { exchange_of held.old ≡ taken_by held.old }
     requires board { IsBoard (taken_by held.old) }
     requires stop { (taken_by held.old).stop ≡ stop }
-    requires kept { Kept stop (share_of held.old) (share shard.old hand.old) }
+    requires preserved { PreservesShare stop (share_of held.old) (share shard.old hand.old) }
     requires work { IsAtWork stop (share shard.old hand.old) }
     requires delivered { (share shard.old hand.old).mail ≡ [] }
     requires sorted { shard.old.outgoing ≡ [] }
@@ -109,7 +109,7 @@ fn visit(
     ensures given { MayBeGiven (taken_by held.old) (share_of held.old) (exchange_of held.new) (share shard.new hand.new) }
     ensures work { IsAtWork stop (share shard.new hand.new) }
     ensures same { IsSameShare shard.old shard.new }
-    ensures done { (r : ℕ) → (core 0 shard.new).done r ≡ (core 0 shard.old).done r }
+    ensures done { (r : ℕ) → (shard_core 0 shard.new).done r ≡ (shard_core 0 shard.old).done r }
     ensures held { shard.new.held ≡ shard.old.held }
     ensures rises { (taken_by held.old).bound ≤ (exchange_of held.new).bound }
     ensures told { (result ≡ Some leaving.Memory → ⊥) → shard.new.bound ≡ (exchange_of held.new).bound }

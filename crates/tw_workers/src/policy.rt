@@ -38,10 +38,9 @@ const LONGEST_WAIT: u64 = 64;
 /// undoing these would need stays small enough for the nearest caches.
 const HANDLED_FOR_EACH_COMMIT: u64 = 4_096;
 
-/// How often an idle worker looks at what is told beside the table before it sleeps: some 40 microseconds, in
-/// which most of what it waits for comes where each worker has a processor. A worker that sleeps comes back late,
-/// and the others should still look then.
-pub(crate) const LOOKS: u32 = 8_192;
+/// How often an idle worker looks at what is told beside the table before it sleeps: some 80 microseconds, as long as
+/// the shortest sleep takes. A worker that sleeps comes back late, and those that wait for it would then sleep as well.
+pub(crate) const LOOKS: u32 = 16_384;
 
 /// How long it sleeps between two looks from then on, in microseconds: where other work takes the processors, one
 /// that sleeps gets its own back much sooner than one that spins or yields.

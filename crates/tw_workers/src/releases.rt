@@ -1,7 +1,7 @@
 //! What is held of what undone events had sent is taken back.
 ghost use Rattle.std.specs.Prelude.{ℕ, ◌≡◌, Ok, OnErr, OnOk, false, true};
-ghost use Rattle.tw_shard.specs.Shard.{IsSameShare, core, owns, releasing, routers};
-ghost use Rattle.tw_workers.specs.Work.{AreAwaited, AreAwaitedFrom, IsAtWork, StillKeeps};
+ghost use Rattle.tw_shard.specs.Shard.{IsSameShare, owns, releasing, routers, shard_core};
+ghost use Rattle.tw_workers.specs.Work.{AreAwaited, AreAwaitedFrom, IsAtWork, StillPreserves};
 
 use crate::worker::Worker;
 use std::alloc::AllocError;
@@ -15,7 +15,7 @@ impl<'a> Worker<'a> {
     ///
     /// For want of memory it is broken off, and some routers have taken back.
     pub(crate) fn release_where_due(&mut self) -> Result<(), AllocError>
-        ensures kept { StillKeeps self.old self.new }
+        ensures preserved { StillPreserves self.old self.new }
         ensures awaited { OnOk result (AreAwaited self.new.stop self.new.share.shard) }
         ensures mail { self.new.share.mail ≡ self.old.share.mail }
         ensures stop { self.new.stop ≡ self.old.stop }
@@ -34,7 +34,7 @@ impl<'a> Worker<'a> {
     fn release_if_due(&mut self, router: u32) -> Result<(), AllocError>
         requires own { owns self.old.share.shard router ≡ true }
         requires work { IsAtWork self.old.stop self.old.share }
-        ensures kept { StillKeeps self.old self.new }
+        ensures preserved { StillPreserves self.old self.new }
         ensures mail { self.new.share.mail ≡ self.old.share.mail }
         ensures stop { self.new.stop ≡ self.old.stop }
         ensures work { IsAtWork self.new.stop self.new.share }
@@ -51,12 +51,12 @@ impl<'a> Worker<'a> {
     /// One of its routers takes back what is held for it.
     fn release_router(&mut self, router: u32) -> Result<(), AllocError>
         requires own { owns self.old.share.shard router ≡ true }
-        ensures kept { StillKeeps self.old self.new }
+        ensures preserved { StillPreserves self.old self.new }
         ensures mail { self.new.share.mail ≡ self.old.share.mail }
         ensures stop { self.new.stop ≡ self.old.stop }
         ensures work { IsAtWork self.new.stop self.new.share }
         ensures same { IsSameShare self.old.share.shard self.new.share.shard }
-        ensures released { OnOk result (releasing 0 self.old.share.shard router ≡ Ok (core 0 self.new.share.shard)) }
+        ensures released { OnOk result (releasing 0 self.old.share.shard router ≡ Ok (shard_core 0 self.new.share.shard)) }
     {
         release_at(&mut self.shard, router)?;
         Ok(())
@@ -76,7 +76,7 @@ impl<'a> Worker<'a> {
 /// One of a shard's routers takes back what is held for it.
 fn release_at(shard: &mut Shard<'_>, router: u32) -> Result<(), AllocError>
     requires own { owns shard.old router ≡ true }
-    ensures ok { (stop : ℕ) → OnOk result (releasing stop shard.old router ≡ Ok (core stop shard.new)) }
+    ensures ok { (stop : ℕ) → OnOk result (releasing stop shard.old router ≡ Ok (shard_core stop shard.new)) }
     ensures err { OnErr result (shard.new ≡ shard.old) }
     ensures same { IsSameShare shard.old shard.new }
 {

@@ -1,8 +1,8 @@
 //! Room for events that are handled and not committed.
 ghost use Rattle.std.specs.Prelude.{ℕ, ◌≡◌, Ok, Err, OnErr, OnOk, true};
 ghost use Rattle.tw_core.specs.declared.refusal.Refusal.TheVariants.{AheadFull};
-ghost use Rattle.tw_shard.specs.Shard.{IsSameShare, core, handling_least, owns, widening};
-ghost use Rattle.tw_workers.specs.Work.{StillKeeps};
+ghost use Rattle.tw_shard.specs.Shard.{IsSameShare, handling_least, owns, shard_core, widening};
+ghost use Rattle.tw_workers.specs.Work.{StillPreserves};
 
 use crate::committing::commit_at;
 use crate::worker::Worker;
@@ -16,7 +16,7 @@ impl<'a> Worker<'a> {
     /// answered whether the worker goes on, which it does not while the event waits.
     pub(crate) fn make_room_for_least(&mut self) -> Result<bool, AllocError>
         requires { (time : ℕ) × (handling_least time self.old.share.shard ≡ Err AheadFull) }
-        ensures kept { StillKeeps self.old self.new }
+        ensures preserved { StillPreserves self.old self.new }
         ensures mail { self.new.share.mail ≡ self.old.share.mail }
         ensures stop { self.new.stop ≡ self.old.stop }
     {
@@ -31,7 +31,7 @@ impl<'a> Worker<'a> {
     /// given more. It is answered whether the worker goes on.
     fn make_room(&mut self, event: &Event) -> Result<bool, AllocError>
         requires own { owns self.old.share.shard event.now.dst ≡ true }
-        ensures kept { StillKeeps self.old self.new }
+        ensures preserved { StillPreserves self.old self.new }
         ensures mail { self.new.share.mail ≡ self.old.share.mail }
         ensures stop { self.new.stop ≡ self.old.stop }
     {
@@ -49,7 +49,7 @@ impl<'a> Worker<'a> {
     /// One of its routers commits its events before the bound.
     fn commit_router(&mut self, router: u32) -> Result<(), AllocError>
         requires own { owns self.old.share.shard router ≡ true }
-        ensures kept { StillKeeps self.old self.new }
+        ensures preserved { StillPreserves self.old self.new }
         ensures mail { self.new.share.mail ≡ self.old.share.mail }
         ensures stop { self.new.stop ≡ self.old.stop }
         ensures same { IsSameShare self.old.share.shard self.new.share.shard }
@@ -61,7 +61,7 @@ impl<'a> Worker<'a> {
     /// One of its routers has twice the room.
     fn widen(&mut self, router: u32) -> Result<(), AllocError>
         requires own { owns self.old.share.shard router ≡ true }
-        ensures kept { StillKeeps self.old self.new }
+        ensures preserved { StillPreserves self.old self.new }
         ensures mail { self.new.share.mail ≡ self.old.share.mail }
         ensures stop { self.new.stop ≡ self.old.stop }
     {
@@ -73,7 +73,7 @@ impl<'a> Worker<'a> {
 /// One of a shard's routers has twice the room.
 fn widen_at(shard: &mut Shard<'_>, router: u32) -> Result<(), AllocError>
     requires own { owns shard.old router ≡ true }
-    ensures ok { (stop : ℕ) → OnOk result (widening stop shard.old router ≡ Ok (core stop shard.new)) }
+    ensures ok { (stop : ℕ) → OnOk result (widening stop shard.old router ≡ Ok (shard_core stop shard.new)) }
     ensures err { OnErr result (shard.new ≡ shard.old) }
     ensures same { IsSameShare shard.old shard.new }
 {

@@ -5,7 +5,7 @@ ghost use Rattle.tw_model.specs.declared.memory.OrMemory.TheVariants as or_memor
 ghost use Rattle.tw_table.specs.Seats.{bound_at, halted_at, was_halted_at};
 ghost use Rattle.tw_workers.specs.declared.working.Leaving.TheVariants as leaving;
 ghost use Rattle.tw_workers.specs.Seated.{HasTurned, IsSeated};
-ghost use Rattle.tw_workers.specs.Work.{HasCommitted, IsAtWork, IsFull, StillKeeps};
+ghost use Rattle.tw_workers.specs.Work.{HasCommitted, IsAtWork, IsFull, StillPreserves};
 
 use crate::gate::Gate;
 use crate::worker::Worker;
@@ -124,7 +124,7 @@ impl<'a> Worker<'a> {
         worker: u32,
         turn: u64,
     ) -> Result<(), OrMemory<CounterFull>>
-        ensures kept { StillKeeps self.old self.new }
+        ensures preserved { StillPreserves self.old self.new }
         ensures mail { OnOk result (self.new.share.mail ≡ []) }
         ensures sorted { OnOk result (self.new.share.shard.outgoing ≡ []) }
         ensures stop { self.new.stop ≡ self.old.stop }
@@ -143,7 +143,7 @@ impl<'a> Worker<'a> {
 
     /// It commits where it knows that the bound is the stop, and now and then before.
     fn commit_where_due(&mut self) -> Result<(), AllocError>
-        ensures kept { StillKeeps self.old self.new }
+        ensures preserved { StillPreserves self.old self.new }
         ensures mail { self.new.share.mail ≡ self.old.share.mail }
         ensures sorted { self.new.share.shard.outgoing ≡ self.old.share.shard.outgoing }
         ensures stop { self.new.stop ≡ self.old.stop }

@@ -30,13 +30,13 @@ abbrev pub cancel_of : Bool → Cancel
 cancel_of lazy = if lazy then Lazy else Aggressive
 
 -- what is written for this input, and how the program ends
-abbrev pub due : CommandLine → List ℕ → Output
-due Check = check_output
-due (Seq stop every log progress stats) = seq_output stop every log
-due (Run stop every log workers batch lazy blocks rotate progress stats) = seq_output stop every log
-due (Trail router stop keep) = trail_output router stop keep
-due (Replay stop workers lazy) = replay_output stop (cancel_of lazy)
-due Upgrade = upgrade_output
+abbrev pub due_output : CommandLine → List ℕ → Output
+due_output Check = check_output
+due_output (Seq stop every log progress stats) = seq_output stop every log
+due_output (Run stop every log workers batch lazy blocks rotate progress stats) = seq_output stop every log
+due_output (Trail router stop keep) = trail_output router stop keep
+due_output (Replay stop workers lazy) = replay_output stop (cancel_of lazy)
+due_output Upgrade = upgrade_output
 
 -- the exit status of a program that ended so
 abbrev pub status_number : Result Status Cause → ℕ
@@ -65,5 +65,5 @@ StartsThreads Upgrade = ⊥
 -- what the program leaves for a command line: what is due, or nothing where it starts threads, its input is a case and one is refused
 abbrev pub Performs : CommandLine → Result Status Cause → Option (List ℕ) → Option (List ℕ) → Option (List ℕ) → Bool → Bool → Type 0
 Performs line result known old new reader writer =
-    Answers result (due line) (StopsFull line) known old new reader writer
+    Answers result (due_output line) (StopsFull line) known old new reader writer
     ⊎ (StartsThreads line × LacksThreadFor result known old new reader writer)

@@ -61,28 +61,18 @@ fn line_of(text: &[u8], number: usize) -> Option<&[u8]> {
     let mut lines = text.split(|byte| *byte == b'\n');
     let line = lines.nth(number.saturating_sub(1))?;
     // Behind the last line end there is no line.
-    if line.is_empty() && lines.next().is_none() {
-        None
-    } else {
-        Some(line)
-    }
+    (!line.is_empty() || lines.next().is_some()).then_some(line)
 }
 
 impl Display for Advice<'_> {
     fn fmt<W: fmt::Write>(&self, f: &mut Formatter<W>) -> fmt::Result {
         match *self {
-            Advice::Router { router, routers: 1 } => {
-                write!(
-                    f,
-                    "there is no router {router}: the case has router 0 alone"
-                )
-            }
             Advice::Router { router, routers } => {
-                let last = routers.saturating_sub(1);
-                write!(
-                    f,
-                    "there is no router {router}: the case has routers 0 to {last}"
-                )
+                write!(f, "there is no router {router}: the case has ")?;
+                match routers {
+                    1 => write!(f, "router 0 alone"),
+                    _ => write!(f, "routers 0 to {}", routers.saturating_sub(1)),
+                }
             }
             Advice::Line {
                 number,

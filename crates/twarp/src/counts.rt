@@ -7,19 +7,12 @@ use tw_model::limits::MOST_WORKERS;
 use tw_run::Tally;
 
 /// A number that threads count up together.
-#[derive(Drop)]
+#[derive(Default, Drop)]
 pub(crate) struct Count {
     number: AtomicU64,
 }
 
 impl Count {
-    /// Nothing is counted yet.
-    pub(crate) fn new() -> Count {
-        Count {
-            number: AtomicU64::new(0),
-        }
-    }
-
     /// The number.
     pub(crate) fn get(&self) -> u64 {
         self.number.load(Ordering::Relaxed)
@@ -59,7 +52,7 @@ pub(crate) struct Counts {
 }
 
 /// What is counted of the bound, at which all workers look.
-#[derive(Drop)]
+#[derive(Default, Drop)]
 pub(crate) struct BoundCounts {
     // The greatest so far.
     bound: Count,
@@ -68,7 +61,7 @@ pub(crate) struct BoundCounts {
 }
 
 /// What is counted of what workers have undone, and of what came of that, as `Tally` has it.
-#[derive(Drop)]
+#[derive(Default, Drop)]
 pub(crate) struct UndoingCounts {
     pub(crate) rollbacks: Count,
     pub(crate) longest: Count,
@@ -80,7 +73,7 @@ pub(crate) struct UndoingCounts {
 }
 
 /// What is counted of a worker.
-#[derive(Drop)]
+#[derive(Default, Drop)]
 pub(crate) struct WorkerCounts {
     pub(crate) handled: Count,
     pub(crate) undone: Count,
@@ -95,21 +88,19 @@ pub(crate) struct WorkerCounts {
 impl Counts {
     /// Nothing is counted yet of what begins at this time.
     pub(crate) fn new(alloc: Global, begun: u64) -> Result<Counts, AllocError> {
-        let mut each = Vec::with_capacity(alloc, MOST_WORKERS as usize)?;
-        for _ in 0..MOST_WORKERS {
-            each.push(CachePadded::new(WorkerCounts::new()))?;
-        }
         Ok(Counts {
             begun,
-            read: Count::new(),
-            ran: Count::new(),
-            workers: Count::new(),
-            stretches_by_one: Count::new(),
-            stretches_by_all: Count::new(),
-            committed: Count::new(),
-            undoing: UndoingCounts::new(),
-            bounds: CachePadded::new(BoundCounts::new()),
-            each,
+            read: Count::default(),
+            ran: Count::default(),
+            workers: Count::default(),
+            stretches_by_one: Count::default(),
+            stretches_by_all: Count::default(),
+            committed: Count::default(),
+            undoing: UndoingCounts::default(),
+            bounds: CachePadded::default(),
+            each: (0..MOST_WORKERS)
+                .map(|_| CachePadded::default())
+                .collect(alloc)?,
         })
     }
 
@@ -120,22 +111,25 @@ impl Counts {
         }
     }
 
+    /// What all workers have together of a number.
+    fn sum<F: Fn(&WorkerCounts) -> u64>(&self, number: F) -> u64
+        requires { F.IsAlwaysCallable number }
+    {
+        let mut sum: u64 = 0;
+        for worker in &self.each {
+            sum = sum.saturating_add(number(worker));
+        }
+        sum
+    }
+
     /// How many events workers have handled.
     pub(crate) fn handled_by_workers(&self) -> u64 {
-        let mut events: u64 = 0;
-        for worker in &self.each {
-            events = events.saturating_add(worker.handled.get());
-        }
-        events
+        self.sum(|worker| worker.handled.get())
     }
 
     /// How many events workers have undone.
     pub(crate) fn undone(&self) -> u64 {
-        let mut events: u64 = 0;
-        for worker in &self.each {
-            events = events.saturating_add(worker.undone.get());
-        }
-        events
+        self.sum(|worker| worker.undone.get())
     }
 
     /// How many events one thread has handled in its stretches: those of the run that workers have not.
@@ -149,31 +143,16 @@ impl Counts {
 
     /// How often workers have met the others.
     pub(crate) fn meetings(&self) -> u64 {
-        let mut meetings: u64 = 0;
-        for worker in &self.each {
-            meetings = meetings.saturating_add(worker.meetings.get());
-        }
-        meetings
+        self.sum(|worker| worker.meetings.get())
     }
 
     /// How often workers have slept while they waited.
     pub(crate) fn naps(&self) -> u64 {
-        let mut naps: u64 = 0;
-        for worker in &self.each {
-            naps = naps.saturating_add(worker.naps.get());
-        }
-        naps
+        self.sum(|worker| worker.naps.get())
     }
 }
 
 impl BoundCounts {
-    fn new() -> BoundCounts {
-        BoundCounts {
-            bound: Count::new(),
-            rises: Count::new(),
-        }
-    }
-
     /// A bound is told. It is counted where it is the greatest so far.
     pub(crate) fn note(&self, bound: u64) {
         if self.bound.get() < bound && self.bound.raise(bound) < bound {
@@ -183,18 +162,6 @@ impl BoundCounts {
 }
 
 impl UndoingCounts {
-    fn new() -> UndoingCounts {
-        UndoingCounts {
-            rollbacks: Count::new(),
-            longest: Count::new(),
-            antimessages: Count::new(),
-            matched: Count::new(),
-            annihilated_pending: Count::new(),
-            annihilated_kept: Count::new(),
-            moved: Count::new(),
-        }
-    }
-
     /// What a worker has undone, and what came of that.
     pub(crate) fn add(&self, tally: &Tally) {
         self.rollbacks.add(tally.rollbacks);
@@ -204,18 +171,5 @@ impl UndoingCounts {
         self.annihilated_pending.add(tally.annihilated_pending);
         self.annihilated_kept.add(tally.annihilated_kept);
         self.moved.add(tally.moved);
-    }
-}
-
-impl WorkerCounts {
-    fn new() -> WorkerCounts {
-        WorkerCounts {
-            handled: Count::new(),
-            undone: Count::new(),
-            meetings: Count::new(),
-            naps: Count::new(),
-            since: Count::new(),
-            waited: Count::new(),
-        }
     }
 }

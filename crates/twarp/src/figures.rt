@@ -82,20 +82,14 @@ impl Figures<'_> {
 
     /// Each worker's share. What one thread handled alone is the first worker's.
     fn put_workers<W: fmt::Write>(&self, f: &mut Formatter<W>) -> fmt::Result {
-        let mut number: u64 = 0;
         let mut alone = self.counts.handled_alone();
-        for worker in &self.counts.each {
-            if number >= self.counts.workers.get() {
-                return Ok(());
-            }
+        let count = self.counts.workers.get() as usize;
+        for (number, worker) in self.counts.each.iter().take(count).enumerate() {
             let handled = worker.handled.get().saturating_add(alone);
-            let waited = Seconds {
-                nanos: worker.waited.get(),
-            };
+            let waited = Seconds::between(0, worker.waited.get());
             writeln!(f, "worker-{number}-handled {handled}")?;
             writeln!(f, "worker-{number}-undone {}", worker.undone.get())?;
             writeln!(f, "worker-{number}-waited {waited}")?;
-            number = number.saturating_add(1);
             alone = 0;
         }
         Ok(())
@@ -119,8 +113,8 @@ impl Display for Efficiency {
 
 /// A time, in nanoseconds, which is told in seconds.
 #[derive(Clone, Copy)]
-struct Seconds {
-    nanos: u64,
+pub(crate) struct Seconds {
+    pub(crate) nanos: u64,
 }
 
 impl Seconds {
@@ -131,8 +125,8 @@ impl Seconds {
         }
     }
 
-    /// How many of so many events come in a second.
-    fn rate_of(self, events: u64) -> u128 {
+    /// How many of so many events come in a second, on average.
+    pub(crate) fn rate_of(self, events: u64) -> u128 {
         let nanos = u128::from(self.nanos.max(1));
         u128::from(events).saturating_mul(u128::from(NANOS)) / nanos
     }

@@ -2,6 +2,7 @@
 
 use crate::clock::nanos;
 use crate::counts::Count;
+use crate::figures::Seconds;
 use std::fmt::{self, Display, Formatter};
 use std::time::Clock;
 use tw_options::CommandLine;
@@ -18,8 +19,6 @@ const PIECE: u64 = 400_000_000;
 /// million ticks has seven short pieces before the others; and where events come closer together, a piece takes so many
 /// times longer than was meant only where they come that much closer within it.
 const GROWTH: u64 = 8;
-
-const SECOND: u64 = 1_000_000_000;
 
 /// What is shown of a run while it goes on.
 #[derive(Clone, Copy, PartialEq, Eq, Debug)]
@@ -66,12 +65,12 @@ impl<'r, R: Clock + Eprint> Meter<'r, R> {
         Meter {
             rt,
             shown,
-            asked: Count::new(),
-            lines: Count::new(),
-            begun: Count::new(),
-            line: Count::new(),
-            piece: Count::new(),
-            ticks: Count::new(),
+            asked: Count::default(),
+            lines: Count::default(),
+            begun: Count::default(),
+            line: Count::default(),
+            piece: Count::default(),
+            ticks: Count::default(),
         }
     }
 
@@ -141,23 +140,15 @@ struct Line {
     nanos: u64,
 }
 
-impl Line {
-    /// How many events that is a second, on average so far.
-    fn rate(self) -> u128 {
-        let nanos = u128::from(self.nanos.max(1));
-        u128::from(self.events).saturating_mul(u128::from(SECOND)) / nanos
-    }
-}
-
 impl Display for Line {
     fn fmt<W: fmt::Write>(&self, f: &mut Formatter<W>) -> fmt::Result {
         let Line {
             time,
             stop,
             events,
-            ..
+            nanos,
         } = *self;
-        let rate = self.rate();
+        let rate = Seconds { nanos }.rate_of(events);
         write!(f, "time {time} of {stop}: {events} events, {rate} a second")
     }
 }

@@ -28,11 +28,9 @@ impl<'r, R: Clock + Eprint> Observer<'r, R> {
         asks_stats: bool,
         meter: Meter<'r, R>,
     ) -> Result<Observer<'r, R>, AllocError> {
-        let counts = if asks_stats {
-            Some(Counts::new(alloc, nanos(rt))?)
-        } else {
-            None
-        };
+        let counts = asks_stats
+            .then(|| Counts::new(alloc, nanos(rt)))
+            .transpose()?;
         Ok(Observer { rt, counts, meter })
     }
 

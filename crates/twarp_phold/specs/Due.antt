@@ -13,11 +13,11 @@ use Rattle.twarp_phold.specs.declared.cause.Status.TheVariants.{Done, Refused}
 use Rattle.twarp_phold.specs.Report.{refused_text, report_text}
 
 -- what a command line asks for is PHOLD
-abbrev pub Fits : CommandLine → Type 0
-Fits line = (0 < line.processes) × (0 < line.lookahead) × (line.lookahead ≤ line.longest)
+abbrev pub AsksForPhold : CommandLine → Type 0
+AsksForPhold line = (0 < line.processes) × (0 < line.lookahead) × (line.lookahead ≤ line.longest)
 
 -- the PHOLD that a command line asks for
-pub record IsAsked (line : CommandLine) (m : Phold) : Type 0 where
+pub record IsPholdAsked (line : CommandLine) (m : Phold) : Type 0 where
   pub processes : m.processes ≡ line.processes
   pub jobs : m.jobs ≡ line.population
   pub lookahead : m.lookahead ≡ line.lookahead
@@ -46,7 +46,7 @@ Reports result m stop old new failed = Leaves result Done (report_text m stop) (
 -- the report of the PHOLD that the line asks for is due
 pub record IsReported (line : CommandLine) (result : Result Status Cause) (old new : Option (List ℕ)) (failed : Bool) : Type 0 where
   pub phold : Phold
-  pub asked : IsAsked line phold
+  pub asked : IsPholdAsked line phold
   pub told : Reports result phold line.stop old new failed
 
 -- that the line asks for no PHOLD is due

@@ -2,7 +2,7 @@
 
 ghost use Rattle.std.specs.Prelude.{◌≡◌, ◌≤◌, false};
 ghost use Rattle.tw_process.specs.declared.limits.TheConstants.{LATEST};
-ghost use Rattle.twarp_phold.specs.Due.{Fits, IsRefused, IsReported, Reports};
+ghost use Rattle.twarp_phold.specs.Due.{AsksForPhold, IsRefused, IsReported, Reports};
 
 use crate::cause::{Cause, Status};
 use crate::meter::Meter;
@@ -25,8 +25,8 @@ pub(crate) fn perform<S: Sink, R: Clock>(
 ) -> Result<Status, Cause>
     requires open { S.failed sink.old ≡ false }
     requires stop { line.stop ≤ LATEST }
-    ensures done { Fits line → IsReported line result (S.written sink.old) (S.written sink.new) (S.failed sink.new) }
-    ensures refused { (Fits line → ⊥) → IsRefused result (S.written sink.old) (S.written sink.new) (S.failed sink.new) }
+    ensures done { AsksForPhold line → IsReported line result (S.written sink.old) (S.written sink.new) (S.failed sink.new) }
+    ensures refused { (AsksForPhold line → ⊥) → IsRefused result (S.written sink.old) (S.written sink.new) (S.failed sink.new) }
 {
     let asked = Phold::new(
         line.processes,

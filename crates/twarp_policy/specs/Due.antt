@@ -10,9 +10,9 @@ use Rattle.tw_policy_options.specs.declared.command_line.CommandLine.{CommandLin
 use Rattle.tw_policy_options.specs.declared.command_line.CommandLine.TheVariants.{Safe, Stable}
 
 -- what is written for this input, and how the program ends
-abbrev pub due : CommandLine → List ℕ → Output
-due Safe = safe_output
-due (Stable splits) = stable_output splits
+abbrev pub due_output : CommandLine → List ℕ → Output
+due_output Safe = safe_output
+due_output (Stable splits) = stable_output splits
 
 -- the exit status of a program that ended so
 abbrev pub status_number : Result Status Cause → ℕ

@@ -3,7 +3,7 @@
 ghost use Rattle.std.specs.Prelude.{◌≡◌, false, OnOk};
 ghost use Rattle.tw_commands.specs.Output.{Answers};
 ghost use Rattle.tw_device.specs.Source.{LosesInput, TakesInput};
-ghost use Rattle.twarp_policy.specs.Due.{due};
+ghost use Rattle.twarp_policy.specs.Due.{due_output};
 
 use std::alloc::Global;
 use tw_commands::{Cause, Status};
@@ -23,7 +23,7 @@ pub(crate) fn perform<R: Source, W: Sink, P: SplitProgress>(
 ) -> Result<Status, Cause>
     requires source { R.failed source.old ≡ false }
     requires sink { W.failed sink.old ≡ false }
-    ensures answer { Answers result (due line) (λ _. ⊥)
+    ensures answer { Answers result (due_output line) (λ _. ⊥)
         (R.remaining source.old) (W.written sink.old) (W.written sink.new) (R.failed source.new) (W.failed sink.new) }
     ensures read { OnOk result (LosesInput (R.remaining source.old) (R.remaining source.new)) }
     ensures most { TakesInput (R.remaining source.old) (R.remaining source.new) }

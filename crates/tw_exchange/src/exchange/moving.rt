@@ -3,7 +3,7 @@
 ghost use Rattle.std.specs.Prelude.{◌≡◌, ◌==◌, ◌+◌, ◌<◌, ◌≤◌, ◌++◌, ℕ, IfOk, IsOk, OnErr, OnOk, false, filter, length, map, vec_capacity, vec_len};
 ghost use Rattle.std.specs.List.{AllByRecursion, range_with_len};
 ghost use Rattle.std.specs.Option.{SomeIff};
-ghost use Rattle.tw_exchange.specs.Board.{IsBoard, IsListed, all_mail, given, is_to, listed, mail_of, who, without_mail, workers};
+ghost use Rattle.tw_exchange.specs.Board.{IsBoard, IsListed, all_mail, is_to, listed, mail_of, who, with_owner, without_mail, workers};
 ghost use Rattle.tw_exchange.specs.Owners.{list_of};
 
 use super::Exchange;
@@ -81,7 +81,7 @@ impl Exchange {
         requires listed { IsListed router self.old }
         requires within { worker < workers self.old }
         requires no_mail { AllByRecursion (λ m. is_to router m ≡ false) (all_mail self.old) }
-        ensures given { self.new ≡ given router worker self.old }
+        ensures given { self.new ≡ with_owner router worker self.old }
         ensures whole { IsBoard self.new }
     {
         self.owners.set(router, worker);

@@ -67,16 +67,11 @@ fn goes_on(alloc: Global, case: &Case) -> bool {
     let Ok(mut run) = TracedRun::new(alloc, case, true) else {
         return false;
     };
-    if run.run_to(7).is_err() {
-        return false;
-    }
-    are_traces_at_7(run.traces()) && ends_at_20(taken_up(case, run))
+    run.run_to(7).is_ok() && are_traces_at_7(run.traces()) && ends_at_20(taken_up(case, run))
 }
 
 #[test]
 fn a_run_is_taken_apart_and_goes_on(rt: HostRuntime) {
-    let Ok(case) = case(rt.alloc(), DISAGREE) else {
-        panic!(rt; "refused")
-    };
-    assert!(rt; goes_on(rt.alloc(), &case));
+    let alloc = rt.alloc();
+    assert!(rt; case(alloc, DISAGREE).is_ok_and(|case| goes_on(alloc, &case)));
 }

@@ -8,7 +8,7 @@ ghost use Rattle.tw_core.specs.Machine.{committed};
 ghost use Rattle.tw_model.specs.Case.{simulation};
 ghost use Rattle.tw_model.specs.declared.memory.OrMemory.TheVariants as or_memory;
 ghost use Rattle.tw_shard.specs.Commit.{BeginsFrom, HasNothingToCommit, committed_at, committed_to, committing, not_before};
-ghost use Rattle.tw_shard.specs.Shard.{HasRun, IsSameShare, core, no_timeline, owns, timeline};
+ghost use Rattle.tw_shard.specs.Shard.{FollowsRun, IsSameShare, no_timeline, owns, shard_core, timeline};
 ghost use Rattle.tw_shard.specs.Timeline.{IsRunUntil, history, last_change_at};
 ghost use Rattle.tw_sim.specs.Simulation.{IsFalling, below};
 
@@ -24,18 +24,18 @@ impl<'a> Shard<'a> {
     /// what undoing them would need is let go.
     ///
     /// Where its history is in order, those that can still be undone are then all that are not before the bound.
-    /// Where the shard's routers don't keep their committed events, what this one has handled before the
+    /// Where the shard's routers don't retain their committed events, what this one has handled before the
     /// bound is the one-thread run.
     ///
     /// It is refused as `NotMine` where the router is none of the shard's. After a refusal and for want
     /// of memory nothing has changed. Where no event becomes committed, it takes no memory.
     pub fn commit(&mut self, router: u32) -> Result<(), OrMemory<Refusal>>
-        requires run { self.old.keeps ≡ false → owns self.old router ≡ true → router < self.old.case.net.nodes → HasRun self.old router }
-        ensures ok { (stop : ℕ) → OnOk result (committing stop self.old router ≡ Ok (core stop self.new)) }
+        requires run { self.old.retains ≡ false → owns self.old router ≡ true → router < self.old.case.net.nodes → FollowsRun self.old router }
+        ensures ok { (stop : ℕ) → OnOk result (committing stop self.old router ≡ Ok (shard_core stop self.new)) }
         ensures events { OnOk result (self.new ≡ committed_at self.old router) }
-        ensures past { let h = (core 0 self.old).history router in OnOk result (IsFalling (simulation self.old.case) h
+        ensures past { let h = (shard_core 0 self.old).history router in OnOk result (IsFalling (simulation self.old.case) h
             → (timeline self.new router).past ≡ below (simulation self.old.case) self.old.bound h) }
-        ensures ahead { let h = (core 0 self.old).history router in OnOk result (IsFalling (simulation self.old.case) h
+        ensures ahead { let h = (shard_core 0 self.old).history router in OnOk result (IsFalling (simulation self.old.case) h
             → (timeline self.new router).ahead ≡ not_before self.old.bound h) }
         ensures refused { (stop : ℕ) (f : ARefusal) → IsErrOf result (or_memory.Fault f) ↔ (committing stop self.old router ≡ Err f) }
         ensures err { OnErr result (self.new ≡ self.old) }
@@ -52,7 +52,7 @@ impl<'a> Shard<'a> {
     /// One of its routers commits its events before the bound.
     fn commit_own(&mut self, router: u32) -> Result<(), AllocError>
         requires own { owns self.old router ≡ true }
-        requires run { self.old.keeps ≡ false → HasRun self.old router }
+        requires run { self.old.retains ≡ false → FollowsRun self.old router }
         ensures ok { OnOk result (self.new ≡ committed_at self.old router) }
         ensures past { let t = timeline self.old router in OnOk result (IsFalling (simulation t.case) (history t)
             → (committed_to self.old.bound t).past ≡ below (simulation t.case) self.old.bound (history t)) }
@@ -67,11 +67,11 @@ impl<'a> Shard<'a> {
         Ok(())
     }
 
-    /// How many events of one of its routers are committed, where these are kept.
+    /// How many events of one of its routers are committed, where these are retained.
     pub fn committed(&self, router: u32) -> usize
         requires own { owns self.now router ≡ true }
-        requires keeps { self.now.keeps ≡ true }
-        ensures { result ≡ length (committed (simulation self.now.case) (core 0 self.now) router) }
+        requires retains { self.now.retains ≡ true }
+        ensures { result ≡ length (committed (simulation self.now.case) (shard_core 0 self.now) router) }
     {
         self.timeline(router).committed()
     }
@@ -79,7 +79,7 @@ impl<'a> Shard<'a> {
     /// How many events one of its routers has handled that are not committed.
     pub fn ahead(&self, router: u32) -> usize
         requires { owns self.now router ≡ true }
-        ensures { result ≡ length ((core 0 self.now).history router) - length (committed (simulation self.now.case) (core 0 self.now) router) }
+        ensures { result ≡ length ((shard_core 0 self.now).history router) - length (committed (simulation self.now.case) (shard_core 0 self.now) router) }
     {
         self.timeline(router).ahead_len()
     }
@@ -88,7 +88,7 @@ impl<'a> Shard<'a> {
     /// router has handled and not undone, whether committed or not; 0 where none did.
     pub fn last_change(&self, router: u32) -> u64
         requires { owns self.now router ≡ true }
-        ensures { result ≡ last_change_at self.now.case.net router ((core 0 self.now).history router) }
+        ensures { result ≡ last_change_at self.now.case.net router ((shard_core 0 self.now).history router) }
     {
         self.timeline(router).last_change()
     }
@@ -97,7 +97,7 @@ impl<'a> Shard<'a> {
     /// first, where committed ones are kept. `None` past the last.
     pub fn handled(&self, router: u32, k: usize) -> Option<Event>
         requires own { owns self.now router ≡ true }
-        requires keeps { self.now.keeps ≡ true }
+        requires retains { self.now.retains ≡ true }
         ensures { result ≡ slice_get (reverse (history (timeline self.now router))) k }
     {
         self.timeline(router).handled(k)
@@ -131,7 +131,7 @@ fn earlier(time: Option<u64>, other: Option<u64>) -> Option<u64>
 fn commit_at(timelines: &mut [Timeline<'_>], place: usize, bound: u64) -> Result<(), AllocError>
     requires within { place < length timelines.old }
     requires done { (slice_index_or timelines.old place no_timeline).done ≤ bound }
-    requires run { let t = slice_index_or timelines.old place no_timeline in t.keeps ≡ false → IsRunUntil bound t }
+    requires run { let t = slice_index_or timelines.old place no_timeline in t.retains ≡ false → IsRunUntil bound t }
     ensures ok { OnOk result
         (timelines.new ≡ slice_set timelines.old place (committed_to bound (slice_index_or timelines.old place no_timeline))) }
     ensures past { let t = slice_index_or timelines.old place no_timeline in OnOk result (IsFalling (simulation t.case) (history t)

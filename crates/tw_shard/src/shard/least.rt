@@ -11,11 +11,12 @@ ghost use Rattle.tw_model.specs.declared.limits.TheConstants.{LATEST};
 ghost use Rattle.tw_model.specs.declared.memory.OrMemory.TheVariants as or_memory;
 ghost use Rattle.tw_model.specs.Case.{simulation};
 ghost use Rattle.tw_model.specs.Effect.{fits, suits};
-ghost use Rattle.tw_shard.specs.Shard.{IsSameShare, IsWhole, core, handled_at, handling, handling_least, may_handle, owns, timeline};
+ghost use Rattle.tw_shard.specs.Shard.{IsSameShare, IsSoundShard, handled_at, handling, handling_least, may_handle, owns, shard_core, timeline};
 ghost use Rattle.tw_shard.specs.Timeline.{router_of};
 ghost use Rattle.tw_sim.specs.Ordered.{least};
 
-use super::{Shard, handle_at};
+use super::Shard;
+use super::step::handle_at;
 use std::alloc::AllocError;
 use tw_core::Refusal;
 use tw_event::Event;
@@ -46,7 +47,7 @@ impl<'a> Shard<'a> {
     /// and for want of memory nothing has changed.
     pub fn handle_least(&mut self, limit: u64) -> Result<u64, OrMemory<Refusal>>
         requires { limit ≤ LATEST }
-        ensures ok { (stop : ℕ) → limit ≤ stop → OnOk result (handling_least stop self.old ≡ Ok (core stop self.new)) }
+        ensures ok { (stop : ℕ) → limit ≤ stop → OnOk result (handling_least stop self.old ≡ Ok (shard_core stop self.new)) }
         ensures time { IfOk result (λ time. option_map (λ e. e.time) (least event_before self.old.pending) ≡ Some time) }
         ensures refused { (f : ARefusal) → IsErrOf result (or_memory.Fault f) ↔ (handling_least limit self.old ≡ Err f) }
         ensures err { OnErr result (self.new ≡ self.old) }
@@ -73,7 +74,7 @@ impl<'a> Shard<'a> {
         ensures least { OnTrue result (least event_before self.old.pending ≡ Some event.new) }
         ensures before { OnTrue result (event.new.time < limit) }
         ensures first { OnTrue result (slice_get self.old.pending 0 ≡ Some event.new) }
-        ensures next { (stop : ℕ) → OnTrue result (first_pending (simulation self.old.case) (core stop self.old) event.new.dst ≡ Some event.new) }
+        ensures next { (stop : ℕ) → OnTrue result (first_pending (simulation self.old.case) (shard_core stop self.old) event.new.dst ≡ Some event.new) }
         ensures suits { OnTrue result (suits self.old.case.net event.new.dst event.new ≡ true) }
         ensures none { OnFalse result ((e : AnEvent) → least event_before self.old.pending ≡ Some e → limit ≤ e.time) }
         ensures same { self.new ≡ self.old }
@@ -84,10 +85,10 @@ impl<'a> Shard<'a> {
     /// The router of an event, the least one that is pending, handles it.
     fn handle_first(&mut self, event: &Event) -> Result<(), OrMemory<Refusal>>
         requires first { slice_get self.old.pending 0 ≡ Some event.now }
-        requires next { (stop : ℕ) → first_pending (simulation self.old.case) (core stop self.old) event.now.dst ≡ Some event.now }
+        requires next { (stop : ℕ) → first_pending (simulation self.old.case) (shard_core stop self.old) event.now.dst ≡ Some event.now }
         requires suit { suits self.old.case.net event.now.dst event.now ≡ true }
         requires early { event.now.time ≤ LATEST }
-        ensures ok { (stop : ℕ) → event.now.time < stop → OnOk result (handling stop self.old event.now.dst ≡ Ok (core stop self.new)) }
+        ensures ok { (stop : ℕ) → event.now.time < stop → OnOk result (handling stop self.old event.now.dst ≡ Ok (shard_core stop self.new)) }
         ensures refused { (stop : ℕ) → event.now.time < stop → (f : ARefusal) → IsErrOf result (or_memory.Fault f)
             ↔ (handling stop self.old event.now.dst ≡ Err f) }
         ensures err { OnErr result (self.new ≡ self.old) }
@@ -105,11 +106,11 @@ impl<'a> Shard<'a> {
 
     /// Whether the router of an event, its first pending one, may handle it, if no counter is full.
     fn may_handle_first(&self, event: &Event) -> Result<(), Refusal>
-        requires { (stop : ℕ) → first_pending (simulation self.now.case) (core stop self.now) event.now.dst ≡ Some event.now }
+        requires { (stop : ℕ) → first_pending (simulation self.now.case) (shard_core stop self.now) event.now.dst ≡ Some event.now }
         ensures own { OnOk result (owns self.now event.now.dst ≡ true) }
         ensures free { OnOk result (may_handle self.now event.now.dst event.now ≡ Ok tt) }
         ensures err { (f : ARefusal) → IsErrOf result f → (stop : ℕ) → event.now.time < stop → handling stop self.now event.now.dst ≡ Err f }
-        ensures whole { IsWhole self.now }
+        ensures whole { IsSoundShard self.now }
     {
         if !self.owns(event.dst) {
             return Err(Refusal::NotMine);

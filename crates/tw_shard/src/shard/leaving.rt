@@ -2,7 +2,7 @@
 
 ghost use Rattle.std.specs.Prelude.{◌≡◌, [], true};
 ghost use Rattle.tw_shard.specs.Cut.{IsGone, IsRouterOf};
-ghost use Rattle.tw_shard.specs.Shard.{IsWhole, owns, timeline};
+ghost use Rattle.tw_shard.specs.Shard.{IsSoundShard, owns, timeline};
 
 use super::Shard;
 use super::moving::take_out;
@@ -15,7 +15,7 @@ impl<'a> Shard<'a> {
         requires committed { (timeline self.old router).ahead ≡ [] }
         ensures router { IsRouterOf (timeline self.old router) result }
         ensures gone { IsGone router self.old self.new }
-        ensures whole { IsWhole self.old }
+        ensures whole { IsSoundShard self.old }
     {
         take_out(router, &mut self.roster, &mut self.timelines).into_router()
     }

@@ -7,7 +7,7 @@ ghost use Rattle.tw_event.specs.Order.{event_before};
 ghost use Rattle.tw_model.specs.declared.memory.OrMemory.TheVariants as or_memory;
 ghost use Rattle.tw_held.specs.Held.{sent_by, sent_by_others};
 ghost use Rattle.tw_ordered.specs.Queue.{for_others, for_router};
-ghost use Rattle.tw_shard.specs.Moving.{HasCome, HasLeft};
+ghost use Rattle.tw_shard.specs.Moving.{HasMovedIn, HasMovedOut};
 ghost use Rattle.tw_shard.specs.Roster.{IsWithout, has, place_in};
 ghost use Rattle.tw_shard.specs.Shard.{no_timeline, owns};
 ghost use Rattle.tw_shard.specs.Timeline.{Timeline as ATimeline};
@@ -32,11 +32,11 @@ impl<'a> Shard<'a> {
     /// nothing has changed in either shard.
     pub fn hand_over(&mut self, router: u32, to: &mut Shard<'a>) -> Result<(), OrMemory<Refusal>>
         requires case { to.old.case ≡ self.old.case }
-        requires keeps { to.old.keeps ≡ self.old.keeps }
+        requires retains { to.old.retains ≡ self.old.retains }
         requires cancel { to.old.cancel ≡ self.old.cancel }
         requires new { owns to.old router ≡ false }
-        ensures left { OnOk result (HasLeft router self.old self.new) }
-        ensures came { OnOk result (HasCome router self.old to.old to.new) }
+        ensures left { OnOk result (HasMovedOut router self.old self.new) }
+        ensures came { OnOk result (HasMovedIn router self.old to.old to.new) }
         ensures refused { (f : ARefusal) → IsErrOf result (or_memory.Fault f) ↔ ((owns self.old router ≡ false) × (f ≡ NotMine)) }
         ensures err { OnErr result (self.new ≡ self.old) }
         ensures none_came { OnErr result (to.new ≡ to.old) }
@@ -52,10 +52,10 @@ impl<'a> Shard<'a> {
     fn hand_over_own(&mut self, router: u32, to: &mut Shard<'a>) -> Result<(), AllocError>
         requires own { owns self.old router ≡ true }
         requires case { to.old.case ≡ self.old.case }
-        requires keeps { to.old.keeps ≡ self.old.keeps }
+        requires retains { to.old.retains ≡ self.old.retains }
         requires new { owns to.old router ≡ false }
-        ensures left { OnOk result (HasLeft router self.old self.new) }
-        ensures came { OnOk result (HasCome router self.old to.old to.new) }
+        ensures left { OnOk result (HasMovedOut router self.old self.new) }
+        ensures came { OnOk result (HasMovedIn router self.old to.old to.new) }
         ensures err { OnErr result (self.new ≡ self.old) }
         ensures none_came { OnErr result (to.new ≡ to.old) }
     {

@@ -31,16 +31,16 @@ impl<'a> Shard<'a> {
         case: &'a Case,
         worker: u32,
         workers: u32,
-        keeps: bool,
+        retains: bool,
     ) -> Result<Shard<'a>, AllocError>
         requires { worker < workers }
-        ensures { IfOk result (λ shard. IsOpeningShard case.now worker workers keeps Aggressive shard) }
+        ensures { IfOk result (λ shard. IsOpeningShard case.now worker workers retains Aggressive shard) }
     {
-        Shard::open_with(alloc, case, worker, workers, keeps, Cancel::Aggressive)
+        Shard::open_with(alloc, case, worker, workers, retains, Cancel::Aggressive)
     }
 
     /// What one worker of so many has of a case: its routers as they begin, and the opening events for
-    /// them. Workers have numbers from 0 on; one past the last router has none. Routers keep their committed
+    /// them. Workers have numbers from 0 on; one past the last router has none. Routers retain their committed
     /// events, or let them go. What an undone event has sent is taken back at once, or as late as may be. It
     /// fails for want of memory alone.
     pub fn open_with(
@@ -48,15 +48,15 @@ impl<'a> Shard<'a> {
         case: &'a Case,
         worker: u32,
         workers: u32,
-        keeps: bool,
+        retains: bool,
         cancel: Cancel,
     ) -> Result<Shard<'a>, AllocError>
         requires { worker < workers }
-        ensures { IfOk result (λ shard. IsOpeningShard case.now worker workers keeps cancel shard) }
+        ensures { IfOk result (λ shard. IsOpeningShard case.now worker workers retains cancel shard) }
     {
         let count = case.instance().nodes();
         let roster = Roster::in_turn(alloc, count, worker, workers)?;
-        Shard::with_roster(alloc, case, worker, workers, roster, keeps, cancel)
+        Shard::with_roster(alloc, case, worker, workers, roster, retains, cancel)
     }
 
     /// What one worker of so many has of a case, as [`Shard::open_with`] gives it, where its routers are those for
@@ -67,16 +67,16 @@ impl<'a> Shard<'a> {
         worker: u32,
         workers: u32,
         owners: &[u32],
-        keeps: bool,
+        retains: bool,
         cancel: Cancel,
     ) -> Result<Shard<'a>, AllocError>
         requires worker { worker < workers }
         requires owners { length owners.now ≡ case.now.net.nodes }
-        ensures { IfOk result (λ shard. IsOpeningBy case.now (λ r. slice_index_or owners.now r workers) worker workers keeps cancel shard) }
+        ensures { IfOk result (λ shard. IsOpeningBy case.now (λ r. slice_index_or owners.now r workers) worker workers retains cancel shard) }
     {
         let count = case.instance().nodes();
         let roster = Roster::owned(alloc, count, worker, owners)?;
-        Shard::with_roster(alloc, case, worker, workers, roster, keeps, cancel)
+        Shard::with_roster(alloc, case, worker, workers, roster, retains, cancel)
     }
 
     /// A worker's shard with these routers of the case.
@@ -86,16 +86,16 @@ impl<'a> Shard<'a> {
         worker: u32,
         workers: u32,
         roster: Roster,
-        keeps: bool,
+        retains: bool,
         cancel: Cancel,
     ) -> Result<Shard<'a>, AllocError>
         requires worker { worker < workers }
         requires count { roster.count ≡ case.now.net.nodes }
         ensures { (who : ℕ → ℕ) → roster.routers ≡ filter (λ r. who r == worker) (range_with_len 0 case.now.net.nodes)
-            → IfOk result (λ shard. IsOpeningBy case.now who worker workers keeps cancel shard) }
+            → IfOk result (λ shard. IsOpeningBy case.now who worker workers retains cancel shard) }
     {
         let instance = case.instance();
-        let timelines = opening_timelines(alloc, case, roster.routers(), keeps)?;
+        let timelines = opening_timelines(alloc, case, roster.routers(), retains)?;
         let pending = opening_queue(alloc, case, &roster)?;
         let kept = Pending::new(alloc, instance.nodes())?;
         Ok(Shard {
@@ -113,7 +113,7 @@ impl<'a> Shard<'a> {
             ticks: 0,
             tally: Tally::default(),
             bound: 0,
-            keeps,
+            retains,
             cancel,
         })
     }
@@ -124,14 +124,14 @@ fn opening_timelines<'a>(
     alloc: Global,
     case: &'a Case,
     routers: &[u32],
-    keeps: bool,
+    retains: bool,
 ) -> Result<Vec<Timeline<'a>>, AllocError>
     requires { AllByRecursion (λ r. r < case.now.net.nodes) routers.now }
-    ensures { IfOk result (λ timelines. timelines.items ≡ map (opening_timeline case.now keeps) routers.now) }
+    ensures { IfOk result (λ timelines. timelines.items ≡ map (opening_timeline case.now retains) routers.now) }
 {
     let mut timelines = Vec::new(alloc);
     for router in routers {
-        timelines.push(Timeline::open(alloc, case, *router, keeps)?)?;
+        timelines.push(Timeline::open(alloc, case, *router, retains)?)?;
     }
     Ok(timelines)
 }

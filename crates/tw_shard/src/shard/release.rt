@@ -5,7 +5,7 @@ ghost use Rattle.tw_core.specs.declared.refusal.Refusal.{Refusal as ARefusal};
 ghost use Rattle.tw_model.specs.declared.memory.OrMemory.TheVariants as or_memory;
 ghost use Rattle.tw_model.specs.Case.{simulation};
 ghost use Rattle.tw_core.specs.Steps.{from};
-ghost use Rattle.tw_shard.specs.Shard.{IsSameShare, core, owns, released_at, releasing};
+ghost use Rattle.tw_shard.specs.Shard.{IsSameShare, owns, released_at, releasing, shard_core};
 
 use super::Shard;
 use std::alloc::AllocError;
@@ -19,7 +19,7 @@ impl<'a> Shard<'a> {
     /// It is refused as `NotMine` where the router is none of the shard's. After a refusal and for want of memory
     /// nothing has changed. Where nothing is held for the router, it takes no memory.
     pub fn release(&mut self, router: u32) -> Result<(), OrMemory<Refusal>>
-        ensures ok { (stop : ℕ) → OnOk result (releasing stop self.old router ≡ Ok (core stop self.new)) }
+        ensures ok { (stop : ℕ) → OnOk result (releasing stop self.old router ≡ Ok (shard_core stop self.new)) }
         ensures refused { (stop : ℕ) (f : ARefusal) → IsErrOf result (or_memory.Fault f) ↔ (releasing stop self.old router ≡ Err f) }
         ensures err { OnErr result (self.new ≡ self.old) }
         ensures same { IsSameShare self.old self.new }

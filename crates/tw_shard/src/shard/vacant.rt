@@ -35,7 +35,7 @@ pub struct VacantShard<'a> {
     worker: u32,
     workers: u32,
     time: u64,
-    keeps: bool,
+    retains: bool,
     cancel: Cancel,
     roster: Roster,
     // Of the first routers of the roster, those that have come.
@@ -59,7 +59,7 @@ impl<'a> Model for VacantShard<'a> {
 impl<'a> VacantShard<'a> {
     /// The shard of a worker of so many, at a time, in ticks. Its routers are those for which `owners`, a list of the
     /// worker of each router, names it; none has come. `pending` has the events that the run leaves at that time, in
-    /// any order. Routers keep their committed events, or let them go. What an undone event has sent is taken back at
+    /// any order. Routers retain their committed events, or let them go. What an undone event has sent is taken back at
     /// once, or as late as may be. It fails for want of memory alone.
     pub fn at(
         alloc: Global,
@@ -69,14 +69,14 @@ impl<'a> VacantShard<'a> {
         owners: &[u32],
         time: u64,
         pending: &[Event],
-        keeps: bool,
+        retains: bool,
         cancel: Cancel,
     ) -> Result<VacantShard<'a>, AllocError>
         requires worker { worker < workers }
         requires owners { length owners.now ≡ case.now.net.nodes }
         requires pending { insert_all event_before pending.now [] ≡ rest (simulation case.now) time }
         ensures { let own = filter (λ r. slice_index_or owners.now r workers == worker) (range_with_len 0 case.now.net.nodes) in
-            IfOk result (λ vacant. vacant ≡ record { case = case.now; worker = worker; workers = workers; time = time; keeps = keeps; cancel = cancel; routers = own; missing = own }) }
+            IfOk result (λ vacant. vacant ≡ record { case = case.now; worker = worker; workers = workers; time = time; retains = retains; cancel = cancel; routers = own; missing = own }) }
     {
         let nodes = case.instance().nodes();
         let roster = Roster::owned(alloc, nodes, worker, owners)?;
@@ -90,7 +90,7 @@ impl<'a> VacantShard<'a> {
             worker,
             workers,
             time,
-            keeps,
+            retains,
             cancel,
             roster,
             timelines,
@@ -103,13 +103,13 @@ impl<'a> VacantShard<'a> {
     /// The first of its routers that have not come comes, with what it has handled before the time.
     pub fn take_in(&mut self, router: RouterAt<'a>)
         requires next { slice_get self.old.missing 0 ≡ Some router.router.node }
-        requires router { IsRouterOf (timeline_at self.old.case self.old.keeps self.old.time router.router.node) router }
+        requires router { IsRouterOf (timeline_at self.old.case self.old.retains self.old.time router.router.node) router }
         ensures { self.new ≡ record self.old { missing = drop 1 self.old.missing } }
     {
         let Some(ring) = self.rings.pop() else {
             unreachable!()
         };
-        let timeline = Timeline::at(self.case, self.keeps, self.time, router, ring);
+        let timeline = Timeline::at(self.case, self.retains, self.time, router, ring);
         self.timelines.push_reserved(timeline);
     }
 
@@ -117,7 +117,7 @@ impl<'a> VacantShard<'a> {
     pub fn into_shard(self) -> Shard<'a>
         requires { self.missing ≡ [] }
         ensures at { (who : ℕ → ℕ) → self.entry.routers ≡ filter (λ r. who r == self.entry.worker) (range_with_len 0 self.entry.case.net.nodes)
-            → IsShardAt self.entry.case who self.entry.time self.entry.worker self.entry.keeps self.entry.cancel result }
+            → IsShardAt self.entry.case who self.entry.time self.entry.worker self.entry.retains self.entry.cancel result }
         ensures order { routers result ≡ self.entry.routers }
         ensures workers { result.workers ≡ self.entry.workers }
     {
@@ -139,7 +139,7 @@ impl<'a> VacantShard<'a> {
             ticks: 0,
             tally: Tally::default(),
             bound: self.time,
-            keeps: self.keeps,
+            retains: self.retains,
             cancel: self.cancel,
         }
     }

@@ -4,7 +4,7 @@ ghost use Rattle.std.specs.Prelude.{◌≡◌, ◌*◌, ◌^◌, ◌<◌, ◌↔
 ghost use Rattle.tw_core.specs.declared.refusal.Refusal.{Refusal as ARefusal};
 ghost use Rattle.tw_core.specs.Machine.{count_ahead};
 ghost use Rattle.tw_model.specs.declared.memory.OrMemory.TheVariants as or_memory;
-ghost use Rattle.tw_shard.specs.Shard.{IsSameShare, core, no_timeline, owns, timeline, widened_at, widening};
+ghost use Rattle.tw_shard.specs.Shard.{IsSameShare, no_timeline, owns, shard_core, timeline, widened_at, widening};
 
 use super::Shard;
 use crate::timeline::Timeline;
@@ -16,7 +16,7 @@ impl<'a> Shard<'a> {
     /// Whether one of its routers may handle one more event before it commits.
     pub fn has_room(&self, router: u32) -> bool
         requires { owns self.now router ≡ true }
-        ensures { IsTrue result ↔ (count_ahead (core 0 self.now) router < (core 0 self.now).room router) }
+        ensures { IsTrue result ↔ (count_ahead (shard_core 0 self.now) router < (shard_core 0 self.now).room router) }
     {
         self.timeline(router).has_room()
     }
@@ -27,7 +27,7 @@ impl<'a> Shard<'a> {
     /// refused for want of it only where so many events could never be there. After a refusal nothing has
     /// changed.
     pub fn widen(&mut self, router: u32) -> Result<(), OrMemory<Refusal>>
-        ensures ok { (stop : ℕ) → OnOk result (widening stop self.old router ≡ Ok (core stop self.new)) }
+        ensures ok { (stop : ℕ) → OnOk result (widening stop self.old router ≡ Ok (shard_core stop self.new)) }
         ensures room { OnOk result (self.new ≡ widened_at self.old router) }
         ensures refused { (stop : ℕ) (f : ARefusal) → IsErrOf result (or_memory.Fault f) ↔ (widening stop self.old router ≡ Err f) }
         ensures err { OnErr result (self.new ≡ self.old) }

@@ -18,7 +18,7 @@ impl Timeline<'_> {
     /// handled before the bound is the one-thread run.
     pub(crate) fn commit(&mut self, bound: u64) -> Result<(), AllocError>
         requires done { self.old.done ≤ bound }
-        requires run { self.old.keeps ≡ false → IsRunUntil bound self.old }
+        requires run { self.old.retains ≡ false → IsRunUntil bound self.old }
         ensures ok { OnOk result (self.new ≡ committed_to bound self.old) }
         ensures past { OnOk result (IsFalling (simulation self.old.case) (history self.old)
             → self.new.past ≡ below (simulation self.old.case) bound (history self.old)) }
@@ -39,7 +39,7 @@ impl Timeline<'_> {
 
     /// How many of its events are before the bound at the latest commit.
     pub(crate) fn committed(&self) -> usize
-        requires { self.now.keeps ≡ true }
+        requires { self.now.retains ≡ true }
         ensures { result ≡ length (filter (λ e. nat_lt e.time self.now.done) (history self.now)) }
     {
         // A commit leaves what was handled after an event that is not before the bound.
@@ -65,7 +65,7 @@ impl Timeline<'_> {
 
     /// Event number `k` of those that it has handled and not undone, from 0, the oldest first.
     pub(crate) fn handled(&self, k: usize) -> Option<Event>
-        requires { self.now.keeps ≡ true }
+        requires { self.now.retains ≡ true }
         ensures { result ≡ slice_get (reverse (history self.now)) k }
     {
         if k < self.past.len() {

@@ -14,14 +14,14 @@ impl<'a> Timeline<'a> {
     /// A router that has handled its events of the run before a time, all of which are committed. The ring is empty.
     pub(crate) fn at(
         case: &'a Case,
-        keeps: bool,
+        retains: bool,
         time: u64,
         router: RouterAt<'a>,
         ring: Ahead,
     ) -> Timeline<'a>
         requires ring { ring ≡ [] }
-        requires router { IsRouterOf (timeline_at case.now keeps time router.router.node) router }
-        ensures { result ≡ timeline_at case.now keeps time router.entry.router.node }
+        requires router { IsRouterOf (timeline_at case.now retains time router.router.node) router }
+        ensures { result ≡ timeline_at case.now retains time router.entry.router.node }
     {
         // What a case keeps is told by a read of it.
         let _ = case.instance();
@@ -31,7 +31,7 @@ impl<'a> Timeline<'a> {
             newest,
             last_change,
         } = router;
-        let past = Past::at(case, router.node(), keeps, events, newest, time);
+        let past = Past::at(case, router.node(), retains, events, newest, time);
         Timeline {
             router,
             past,

@@ -1,6 +1,6 @@
 use Rattle.std.proofs.Common.{◌≡◌, ◌∙◌, ◌<◌, ◌≤◌, ap, arith, false, length, refl, subst, sym}
 use Rattle.tw_instance.specs.Tables.{items}
-use Rattle.tw_elimination.specs.Narrowing.{AreLists, halt_within, keeps_all, kept_after, one_round, total_in}
+use Rattle.tw_elimination.specs.Narrowing.{AreLists, halt_within, lists_after, loses_none, one_round, total_in}
 use Rattle.tw_elimination.proofs.Halting.{none_found}
 use Rattle.tw_elimination.proofs.Kept.{halt_is, halt_more, is_over, next_as_long, not_last, round_lists, takes_one}
 use Rattle.tw_elimination.proofs.narrowing.eliminate_within.Goals as goal
@@ -33,7 +33,7 @@ one_round-requires-in-loop-alloc-clause-lists c =
     subst (λ rows. AreLists c.args.case.now (items rows)) (sym c.deref-in-loop-alloc-3.ensures.value) (next_lists c)
 
 -- the round that was taken was not the last
-takes : (c : goal.In_ok-next-2) → keeps_all c.args.case.now (items c.loop-alloc.left.items) ≡ false
+takes : (c : goal.In_ok-next-2) → loses_none c.args.case.now (items c.loop-alloc.left.items) ≡ false
 takes c =
     not_last c.args.case.now c.loop-alloc.left.items c.loop-alloc.next.items c.loop-alloc.invariant.next c.deref-in-loop-alloc-2.result.now c.deref-in-loop-alloc.result.now
     c.deref-in-loop-alloc-2.ensures.value c.deref-in-loop-alloc.ensures.value (c.loop-alloc-test.ensures.some refl)
@@ -60,7 +60,7 @@ loop-alloc-preserved c =
       halt = (
         more.0,
         subst (λ rows. total_in case rows ≤ more.0) (sym inv.next) more.1,
-        subst (λ rows. kept_after case more.0 rows ≡ end) (sym inv.next) more.2,
+        subst (λ rows. lists_after case more.0 rows ≡ end) (sym inv.next) more.2,
       );
     }
 

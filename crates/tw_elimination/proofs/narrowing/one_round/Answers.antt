@@ -7,7 +7,7 @@ use Rattle.tw_model.specs.State.{Router}
 use Rattle.tw_policy.specs.Left.{round_left}
 use Rattle.tw_policy.specs.Search.{is_one_of}
 use Rattle.tw_policy.specs.Standing.{standing}
-use Rattle.tw_elimination.specs.Narrowing.{kept_at}
+use Rattle.tw_elimination.specs.Narrowing.{left_at}
 use Rattle.tw_elimination.proofs.Halting.{router_is, routers_long}
 use Rattle.tw_elimination.proofs.Kept.{items_more}
 use Rattle.tw_elimination.proofs.Marking.{row_at}
@@ -48,7 +48,7 @@ loop-node-preserved c =
     = c.deref-in-loop-node.ensures.value ∙ (remains ∙ ap (λ (x : Router). round_left x.net (standing case) (row lists) x.node) own) in
     let mine : c.deref.result.now ≡ row lists k = c.deref.ensures.value ∙ sym (row_at lists k c.index-lists-node.result (omega arith) c.index-lists-node.is) in
     record {
-      next = items_more (kept_at case (items lists)) k c.loop-node.next.items c.push.new.self.items c.in_ok-those_among.field-0 c.in_ok-push.ensures.items
+      next = items_more (left_at case (items lists)) k c.loop-node.next.items c.push.new.self.items c.in_ok-those_among.field-0 c.in_ok-push.ensures.items
           (c.in_ok-those_among.ensures ∙ (ap (λ xs. filter (is_one_of xs) c.deref.result.now) others
           ∙ ap (filter (is_one_of (round_left case.net (standing case) (row lists) k))) mine)) inv.next;
     }
@@ -60,7 +60,7 @@ returns-clause-value c =
     let over = c.loop-node-test.false in
     let most = c.loop-node.auto.node-end in
     let end : c.loop-node.node ≡ case.net.nodes = omega arith in
-    c.loop-node.invariant.next ∙ ap (λ m. map (kept_at case (items c.args.lists.now)) (range_with_len 0 m)) end
+    c.loop-node.invariant.next ∙ ap (λ m. map (left_at case (items c.args.lists.now)) (range_with_len 0 m)) end
 
 pub bounds-lists-node : goal.bounds-lists-node
 bounds-lists-node c =

@@ -5,7 +5,7 @@ use Rattle.std.proofs.lemmas.List.FromFn.{length-map-range_with_len}
 use Rattle.std.specs.Vec.{vec_len}
 use Rattle.tw_sim.proofs.Members.{all_from_in, in_range}
 use Rattle.tw_model.specs.Net.{hops_of}
-use Rattle.tw_elimination.specs.Placing.{GoesOnNext, IsNext, IsStuck, are_placed, count_of, counts_after, has_router}
+use Rattle.tw_elimination.specs.Placing.{GoesOnNext, IsNextToPlace, PlacesNothing, are_placed, count_of, counts_after, has_router}
 use Rattle.tw_elimination.proofs.Ring.{all_more}
 use Rattle.tw_elimination.proofs.Worklist.{all_at_work, all_placed, all_popped, fewer_left, left_to_place, none_waits, nothing_left, one_longer, reached_more, same_there, waits_more}
 use Rattle.tw_elimination.proofs.placing.has_one_list.Goals as goal
@@ -51,7 +51,7 @@ loop-router-smaller-in-Continue-branch-4 c =
     let rest = c.pop.new.self.items in
     let home = (all_popped (λ v. v < net.nodes) c.loop-router.work.items rest v c.in-Some.ensures.items inv.homes).1 in
     let within : v < length placed = (let long = inv.long in omega arith) in
-    let next : IsNext net placed v c.in-Some-next_path.path = subst (λ xs. IsNext net xs v c.in-Some-next_path.path) c.deref.ensures.value c.in-Some-next_path.ensures.some in
+    let next : IsNextToPlace net placed v c.in-Some-next_path.path = subst (λ xs. IsNextToPlace net xs v c.in-Some-next_path.path) c.deref.ensures.value c.in-Some-next_path.ensures.some in
     let old_long = one_longer rest c.loop-router.work.items v c.in-Some.ensures.items in
     let mid_long = one_longer rest c.push.new.self.items v c.in_ok-push.ensures.items in
     let few = c.in_ok-push_waiting.ensures.few in
@@ -71,7 +71,7 @@ loop-router-preserved-in-Continue-branch-4 c =
     let homes = all_popped (λ v. v < net.nodes) c.loop-router.work.items rest v c.in-Some.ensures.items inv.homes in
     let home = homes.1 in
     let within : v < length placed = (let long = inv.long in omega arith) in
-    let next : IsNext net placed v q = subst (λ xs. IsNext net xs v q) c.deref.ensures.value c.in-Some-next_path.ensures.some in
+    let next : IsNextToPlace net placed v q = subst (λ xs. IsNextToPlace net xs v q) c.deref.ensures.value c.in-Some-next_path.ensures.some in
     let value : c.index_mut.result.now ≡ count_of net placed v = c.index_mut.ensures.value ∙ same_there placed v c.index_mut.result.now 0 within in
     let after : set placed v (c.index_mut.result.now + 1) ≡ set placed v (count_of net placed v + 1) = ap (λ n. set placed v (n + 1)) value in
     let now : c.deref-in-Some-next_path.result.now ≡ set placed v (count_of net placed v + 1) = c.deref-in-Some-next_path.ensures.value ∙ after in
@@ -82,7 +82,7 @@ loop-router-preserved-in-Continue-branch-4 c =
       homes = c.in_ok-push_waiting.ensures.homes (all_more (λ v. v < net.nodes) rest c.push.new.self.items v c.in_ok-push.ensures.items homes.0 home);
       reached = subst (λ xs. (n : ℕ) × ((u : ℕ) → count_of net xs u ≤ count_of net (counts_after net n) u)) (sym after)
           (suc inv.reached.0, reached_more net inv.is placed v q within home next inv.reached.0 inv.reached.1);
-      waits = subst (λ xs. (u : ℕ) → u < net.nodes → (has_router c.push_waiting.new.work.items u ≡ true) ⊎ IsStuck net xs u) (sym after)
+      waits = subst (λ xs. (u : ℕ) → u < net.nodes → (has_router c.push_waiting.new.work.items u ≡ true) ⊎ PlacesNothing net xs u) (sym after)
           (waits_more net inv.is placed v q within home next c.loop-router.work.items rest c.push.new.self.items c.push_waiting.new.work.items c.in-Some.ensures.items
           c.in_ok-push.ensures.items c.in_ok-push_waiting.ensures.kept waiting inv.waits);
     }

@@ -1,5 +1,5 @@
 use Rattle.std.proofs.Common.{◌∙◌}
-use Rattle.tw_elimination.proofs.Ring.{number_told}
+use Rattle.tw_elimination.proofs.PathNumbers.{number_told}
 use Rattle.tw_elimination.proofs.wheel.number_of.Goals as goal
 
 pub returns-clause-value : goal.returns-clause-value

@@ -1,6 +1,6 @@
 use Rattle.std.proofs.Common.{sym, subst}
 use Rattle.tw_machine_rows.proofs.Sittings.{ready_handled}
-use Rattle.tw_machine_rows.specs.Sitting.{IsReady}
+use Rattle.tw_machine_rows.specs.Sitting.{IsReadyToTake}
 use Rattle.tw_table.specs.Shares.{share}
 use Rattle.tw_machine_rows.proofs.table.handle.Goals as goal
 
@@ -11,5 +11,5 @@ returns-in-Ok c = λ t s h is.
 pub returns-in-Ok-handle_next : goal.returns-in-Ok-handle_next
 returns-in-Ok-handle_next c = λ t s h is.
     let old = c.handle_next.new.self in
-    ready_handled t s (share old h) c.handle_next-2.new.self c.args.router (subst (λ x. IsReady t s (share x h)) (sym c.in-Err.ensures.err) is) c.handle_next-2.ensures.same
+    ready_handled t s (share old h) c.handle_next-2.new.self c.args.router (subst (λ x. IsReadyToTake t s (share x h)) (sym c.in-Err.ensures.err) is) c.handle_next-2.ensures.same
     c.in-Ok-handle_next.ensures.ok

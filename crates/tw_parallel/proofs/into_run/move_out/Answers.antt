@@ -1,6 +1,6 @@
 use Rattle.std.proofs.Common.{◌≡◌, ℕ, true, is_some, length, refl, ap, sym, ◌∙◌, subst, arith}
 use Rattle.std.specs.Prelude.{IfSome}
-use Rattle.tw_parallel.proofs.Removing.{all_kept, may_leave}
+use Rattle.tw_parallel.proofs.Removing.{all_retained, may_leave}
 use Rattle.tw_parallel.proofs.Shares.{long_shares}
 use Rattle.tw_parallel.specs.Inside.{sim_of_parts}
 use Rattle.tw_parallel.specs.Removal.{IsRoomFor}
@@ -21,7 +21,7 @@ take_out-routers-requires-clause-homes c = λ r known.
     let s = sim_of_parts parts in
     let same = c.into_parts-exchange.ensures.run in
     (may_leave s c.into_parts-exchange.ensures.sim (subst IsSettled (sym same) c.requires.settled) (subst HasNoRecords (sym same) c.requires.records) parts.shards.items parts.hands.items refl
-    c.into_parts-exchange.ensures.hands (is_some c.args.room.removal.logs) (subst (λ t. IsRoomFor t c.args.room) (sym same) c.requires.room).keeps.0 r known).0
+    c.into_parts-exchange.ensures.hands (is_some c.args.room.removal.logs) (subst (λ t. IsRoomFor t c.args.room) (sym same) c.requires.room).retains.0 r known).0
 
 pub take_out-routers-requires-clause-workers : goal.take_out-routers-requires-clause-workers
 take_out-routers-requires-clause-workers c =
@@ -35,7 +35,7 @@ take_out-routers-requires-clause-each c = λ r known.
     let s = sim_of_parts parts in
     let same = c.into_parts-exchange.ensures.run in
     (may_leave s c.into_parts-exchange.ensures.sim (subst IsSettled (sym same) c.requires.settled) (subst HasNoRecords (sym same) c.requires.records) parts.shards.items parts.hands.items refl
-    c.into_parts-exchange.ensures.hands (is_some c.args.room.removal.logs) (subst (λ t. IsRoomFor t c.args.room) (sym same) c.requires.room).keeps.0 r known).1
+    c.into_parts-exchange.ensures.hands (is_some c.args.room.removal.logs) (subst (λ t. IsRoomFor t c.args.room) (sym same) c.requires.room).retains.0 r known).1
 
 pub resume-requires-clause-logs : goal.resume-requires-clause-logs
 resume-requires-clause-logs c =
@@ -44,4 +44,4 @@ resume-requires-clause-logs c =
     let left = c.take_out-routers.ensures.left in
     let thread = c.resume-thread.ensures.value ∙ ap (complete_run case) c.stop-stop.ensures.value in
     subst (λ (r : Run). IfSome c.take_out-routers.result.logs (λ logs. lists_of logs.items ≡ logs_after r.case r.events)) (sym thread)
-    (all_kept (logs_after case (complete_run case parts.exchange.stop).events) c.take_out-routers.result.logs left.logs)
+    (all_retained (logs_after case (complete_run case parts.exchange.stop).events) c.take_out-routers.result.logs left.logs)

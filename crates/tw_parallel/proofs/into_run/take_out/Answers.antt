@@ -4,7 +4,7 @@ use Rattle.std.proofs.lemmas.List.FromFn.{length-map-range_with_len}
 use Rattle.tw_exchange.specs.Board.{who}
 use Rattle.tw_parallel.proofs.Leaving.{leaves_log, leaves_router, leaves_trace}
 use Rattle.tw_parallel.proofs.Removing.{has_place, one_left, others_may, still_some}
-use Rattle.tw_parallel.specs.Removal.{HaveLeft, MayLeave}
+use Rattle.tw_parallel.specs.Removal.{AreRemoved, MayLeave}
 use Rattle.tw_seq.specs.Run.{complete_run, router_after}
 use Rattle.tw_seq.specs.Traced.{trace_after}
 use Rattle.tw_shard.specs.Cut.{IsGone}
@@ -16,7 +16,7 @@ use Rattle.tw_sim.specs.Simulation.{only}
 use Rattle.tw_parallel.proofs.into_run.take_out.Goals as goal
 
 pub loop-number-init : goal.loop-number-init
-loop-number-init c = record { left = c.requires.none; keeps = refl; count = refl; each = λ r least known. c.requires.each r known }
+loop-number-init c = record { left = c.requires.none; retains = refl; count = refl; each = λ r least known. c.requires.each r known }
 
 module _ (c : goal.After-index_mut) where
   abbrev r : ℕ
@@ -91,8 +91,8 @@ module _ (c : goal.After-add) where
   abbrev xs_then : List Shard
   xs_then = c.loop-number.shards.items
 
-  abbrev keeps : Bool
-  keeps = is_some c.args.removal.logs
+  abbrev retains : Bool
+  retains = is_some c.args.removal.logs
 
   known_then : q < case.net.nodes
   known_then =
@@ -100,7 +100,7 @@ module _ (c : goal.After-add) where
       let more = c.loop-number-test.true in
       omega arith
 
-  may_then : MayLeave case time q keeps (get_or xs_then (who c.args.exchange.now q) no_shard)
+  may_then : MayLeave case time q retains (get_or xs_then (who c.args.exchange.now q) no_shard)
   may_then = c.loop-number.invariant.each q (omega arith) known_then
 
   within_then : who c.args.exchange.now q < length xs_then
@@ -127,8 +127,8 @@ module _ (c : goal.After-add) where
   run : history line ≡ own_run case q time
   run = ap (λ (s : Shard). history (timeline s q)) shard_then ∙ may_then.run
 
-  keeps_then : keeps ≡ true → line.keeps ≡ true
-  keeps_then kept = there.keeps ∙ (ap (λ (s : Shard). s.keeps) shard_then ∙ may_then.keeps_are kept)
+  keeps_then : retains ≡ true → line.retains ≡ true
+  keeps_then kept = there.retains ∙ (ap (λ (s : Shard). s.retains) shard_then ∙ may_then.retains_are kept)
 
 pub loop-number-preserved : goal.loop-number-preserved
 loop-number-preserved c =
@@ -141,11 +141,11 @@ loop-number-preserved c =
       left = one_left (case c) (time c) (case c).net.nodes (q c) c.loop-number.removal c.add.new.removal at was.left added.routers added.traces added.logs added.router_room added.trace_room added.log_room
           (leaves_router (case c) is (time c) (q c) (line c) at (net c) (there c).node (run c) of)
           (leaves_trace (case c) is (time c) (q c) (line c) at (net c) (there c).node (run c) of)
-          (λ some. leaves_log (case c) is (time c) (q c) (line c) at (net c) (there c).node (run c) of (keeps_then c (sym was.keeps ∙ some)));
-      keeps = still_some c.loop-number.removal.logs c.add.new.removal.logs at.events.items added.logs ∙ was.keeps;
+          (λ some. leaves_log (case c) is (time c) (q c) (line c) at (net c) (there c).node (run c) of (keeps_then c (sym was.retains ∙ some)));
+      retains = still_some c.loop-number.removal.logs c.add.new.removal.logs at.events.items added.logs ∙ was.retains;
       count = length-set (xs_then c) c.in-Some.worker c.take_router-router.new.self ∙ was.count;
       each = λ r least known.
-          others_may (case c) (time c) (q c) r (keeps c) c.args.exchange.now (xs_then c) (set (xs_then c) c.in-Some.worker c.take_router-router.new.self) c.take_router-router.new.self (within_then c)
+          others_may (case c) (time c) (q c) r (retains c) c.args.exchange.now (xs_then c) (set (xs_then c) c.in-Some.worker c.take_router-router.new.self) c.take_router-router.new.self (within_then c)
           (ap (λ k. set (xs_then c) k c.take_router-router.new.self) c.in-Some.ensures.value.1)
           (subst (λ s. IsGone (q c) s c.take_router-router.new.self) (shard_then c) c.take_router-router.ensures.gone) (λ same. omega arith) (was.each r (omega arith) known);
     }
@@ -156,7 +156,7 @@ returns-clause-left c =
     let past = c.loop-number-test.false in
     let most = c.loop-number.auto.number-end in
     let all : c.loop-number.number ≡ c.args.case.now.net.nodes = omega arith in
-    subst (λ n. HaveLeft c.args.case.now c.args.exchange.now.stop c.args.case.now.net.nodes n c.loop-number.removal) all c.loop-number.invariant.left
+    subst (λ n. AreRemoved c.args.case.now c.args.exchange.now.stop c.args.case.now.net.nodes n c.loop-number.removal) all c.loop-number.invariant.left
 
-pub returns-clause-keeps : goal.returns-clause-keeps
-returns-clause-keeps c = c.loop-number.invariant.keeps
+pub returns-clause-retains : goal.returns-clause-retains
+returns-clause-retains c = c.loop-number.invariant.retains

@@ -4,7 +4,7 @@ use Rattle.std.specs.List.{SwappedAt}
 use Rattle.std.specs.Prelude.{if◌then◌else◌, OnErr, OnOk}
 use Rattle.tw_parallel.proofs.PutBack.{both_err, both_ok, other_there, place_in, put_back, set_itself}
 use Rattle.tw_parallel.specs.Moving.{AreLike, HasPassed}
-use Rattle.tw_shard.specs.Moving.{HasCome, HasLeft}
+use Rattle.tw_shard.specs.Moving.{HasMovedIn, HasMovedOut}
 use Rattle.tw_shard.specs.Shard.{Shard, no_shard, owns}
 use Rattle.tw_parallel.proofs.moving.hand_over_router.Goals as goal
 
@@ -55,7 +55,7 @@ module _ (c : goal.After-index_mut) where
 pub pass-handed-requires-clause-like : goal.pass-handed-requires-clause-like
 pass-handed-requires-clause-like c = record {
   case = ap (λ (s : Shard). s.case) (other_is c) ∙ (c.requires.fit.like.case ∙ ap (λ (s : Shard). s.case) (sym (source_is c)));
-  keeps = ap (λ (s : Shard). s.keeps) (other_is c) ∙ (c.requires.fit.like.keeps ∙ ap (λ (s : Shard). s.keeps) (sym (source_is c)));
+  retains = ap (λ (s : Shard). s.retains) (other_is c) ∙ (c.requires.fit.like.retains ∙ ap (λ (s : Shard). s.retains) (sym (source_is c)));
   cancel = ap (λ (s : Shard). s.cancel) (other_is c) ∙ (c.requires.fit.like.cancel ∙ ap (λ (s : Shard). s.cancel) (sym (source_is c)));
 }
 
@@ -151,11 +151,11 @@ module _ (c : goal.After-swap) where
 pub returns-clause-passed : goal.returns-clause-passed
 returns-clause-passed c = both_ok c.pass-handed.result _ _ _ c.pass-handed.ensures.left c.pass-handed.ensures.came (λ left came.
     record {
-      left = subst (λ l. HasLeft c.args.router l (get_or (ws c) c.args.from no_shard)) (source_then c)
-          (subst (HasLeft c.args.router c.swap_remove-source.result) (sym (from_then c)) left);
-      came = subst (λ l. HasCome c.args.router l (get_or c.args.shards.now.items c.args.to no_shard) (get_or (ws c) c.args.to no_shard)) (source_then c)
-          (subst (λ l. HasCome c.args.router c.swap_remove-source.result l (get_or (ws c) c.args.to no_shard)) (other_then c)
-          (subst (HasCome c.args.router c.swap_remove-source.result c.index_mut.result.now) (sym (to_then c)) came));
+      left = subst (λ l. HasMovedOut c.args.router l (get_or (ws c) c.args.from no_shard)) (source_then c)
+          (subst (HasMovedOut c.args.router c.swap_remove-source.result) (sym (from_then c)) left);
+      came = subst (λ l. HasMovedIn c.args.router l (get_or c.args.shards.now.items c.args.to no_shard) (get_or (ws c) c.args.to no_shard)) (source_then c)
+          (subst (λ l. HasMovedIn c.args.router c.swap_remove-source.result l (get_or (ws c) c.args.to no_shard)) (other_then c)
+          (subst (HasMovedIn c.args.router c.swap_remove-source.result c.index_mut.result.now) (sym (to_then c)) came));
       rest = result_is c ∙ (ap (λ s. set (set c.args.shards.now.items c.args.from s) c.args.to c.pass-handed.new.to) (sym (from_then c)) ∙ ap (set (set c.args.shards.now.items c.args.from (get_or (ws c) c.args.from no_shard)) c.args.to) (sym (to_then c)));
     })
 

@@ -4,12 +4,12 @@ use Rattle.std.proofs.lemmas.List.FromFn.{get_or-map-range_with_len, length-map-
 use Rattle.std.specs.Prelude.{option_map}
 use Rattle.std.specs.Vec.Iter.{into_iter_items}
 use Rattle.tw_model.specs.State.{Router}
-use Rattle.tw_parallel.proofs.Coming.{AreComing, all_came, fit_below, fit_long, kept_long, kept_some, log_of, next_came, next_missing, next_of, none_came, number_known, place_is}
+use Rattle.tw_parallel.proofs.Coming.{AreComing, all_came, fit_below, fit_long, log_of, next_came, next_missing, next_of, none_came, number_known, place_is, retained_long, retained_some}
 use Rattle.tw_parallel.proofs.Leaving.{comes}
 use Rattle.tw_parallel.specs.Moving.{fit}
 use Rattle.tw_parallel.specs.Vacancy.{AreVacant, Start, no_vacant, owner_in, start_from, vacant_from}
 use Rattle.tw_seq.specs.Run.{complete_run}
-use Rattle.tw_seq.specs.Traced.{kept, no_trace, trace_after}
+use Rattle.tw_seq.specs.Traced.{no_trace, retained, trace_after}
 use Rattle.tw_shard.specs.Cut.{IsRouterOf, timeline_at}
 use Rattle.tw_shard.specs.declared.router_at.RouterAt.{RouterAt}
 use Rattle.tw_shard.specs.Vacant.{Vacant}
@@ -22,7 +22,7 @@ loop-router-init c =
     let many : length c.args.routers.items ≡ vec_len c.args.routers = search rules in
     record {
       from = 0;
-      coming = none_came s (into_iter_items c.into_iter-router-iterator.result) c.args.logs c.args.vacant.items (routers.0 ∙ c.requires.routers) c.requires.logs c.requires.keeps c.requires.vacant;
+      coming = none_came s (into_iter_items c.into_iter-router-iterator.result) c.args.logs c.args.vacant.items (routers.0 ∙ c.requires.routers) c.requires.logs c.requires.retains c.requires.vacant;
       rest = ap length routers.0 ∙ (many ∙ sym routers.1);
     }
 
@@ -30,7 +30,7 @@ pub bounds-traces-number : goal.bounds-traces-number
 bounds-traces-number c =
     let s = start_from c.args.owners.now c.args.vacant.items in
     let from = c.loop-router.invariant.from in
-    let logs = kept c.loop-router.logs in
+    let logs = retained c.loop-router.logs in
     let vs = c.loop-router.vacant.items in
     let are = subst (λ rs. AreComing s from rs logs vs) c.in-Some.ensures.steps.0 c.loop-router.invariant.coming in
     let at = number_known s from c.node-number.result c.in-Some.router (into_iter_items c.next.new.self) logs vs are c.node-number.ensures.value in
@@ -42,17 +42,17 @@ pub take_log-events-requires : goal.take_log-events-requires
 take_log-events-requires c =
     let s = start_from c.args.owners.now c.args.vacant.items in
     let from = c.loop-router.invariant.from in
-    let logs = kept c.loop-router.logs in
+    let logs = retained c.loop-router.logs in
     let vs = c.loop-router.vacant.items in
     let are = subst (λ rs. AreComing s from rs logs vs) c.in-Some.ensures.steps.0 c.loop-router.invariant.coming in
     let at = number_known s from c.node-number.result c.in-Some.router (into_iter_items c.next.new.self) logs vs are c.node-number.ensures.value in
-    kept_long c.node-number.result s.case.net.nodes c.loop-router.logs at.1 are.long
+    retained_long c.node-number.result s.case.net.nodes c.loop-router.logs at.1 are.long
 
 pub bounds-owners-number : goal.bounds-owners-number
 bounds-owners-number c =
     let s = start_from c.args.owners.now c.args.vacant.items in
     let from = c.loop-router.invariant.from in
-    let logs = kept c.loop-router.logs in
+    let logs = retained c.loop-router.logs in
     let vs = c.loop-router.vacant.items in
     let are = subst (λ rs. AreComing s from rs logs vs) c.in-Some.ensures.steps.0 c.loop-router.invariant.coming in
     let at = number_known s from c.node-number.result c.in-Some.router (into_iter_items c.next.new.self) logs vs are c.node-number.ensures.value in
@@ -64,7 +64,7 @@ pub index_mut-requires : goal.index_mut-requires
 index_mut-requires c =
     let s = start_from c.args.owners.now c.args.vacant.items in
     let from = c.loop-router.invariant.from in
-    let logs = kept c.loop-router.logs in
+    let logs = retained c.loop-router.logs in
     let vs = c.loop-router.vacant.items in
     let are = subst (λ rs. AreComing s from rs logs vs) c.in-Some.ensures.steps.0 c.loop-router.invariant.coming in
     let at = number_known s from c.node-number.result c.in-Some.router (into_iter_items c.next.new.self) logs vs are c.node-number.ensures.value in
@@ -88,7 +88,7 @@ pub take_in-requires-clause-next : goal.take_in-requires-clause-next
 take_in-requires-clause-next c =
     let s = start_from c.args.owners.now c.args.vacant.items in
     let from = c.loop-router.invariant.from in
-    let logs = kept c.loop-router.logs in
+    let logs = retained c.loop-router.logs in
     let vs = c.loop-router.vacant.items in
     let are = subst (λ rs. AreComing s from rs logs vs) c.in-Some.ensures.steps.0 c.loop-router.invariant.coming in
     let at = number_known s from c.node-number.result c.in-Some.router (into_iter_items c.next.new.self) logs vs are c.node-number.ensures.value in
@@ -100,7 +100,7 @@ pub take_in-requires-clause-router : goal.take_in-requires-clause-router
 take_in-requires-clause-router c =
     let s = start_from c.args.owners.now c.args.vacant.items in
     let from = c.loop-router.invariant.from in
-    let logs = kept c.loop-router.logs in
+    let logs = retained c.loop-router.logs in
     let vs = c.loop-router.vacant.items in
     let nodes = s.case.net.nodes in
     let events = (complete_run s.case s.time).events in
@@ -115,16 +115,16 @@ take_in-requires-clause-router c =
     let traced : trace ≡ trace_after s.case events from = ap (λ ts. get_or ts c.node-number.result no_trace) c.requires.traces
     ∙ get_or-map-range_with_len (trace_after s.case events) 0 nodes c.node-number.result from no_trace at.1 at_number in
     let node : c.in-Some.router.node ≡ from = ap (λ (r : Router). r.node) next.1 in
-    let of = comes s.case c.requires.case s.time from s.keeps x next.1 traced
-    (λ kept_so. log_of s from c.node-number.result c.take_log-events.result.items c.loop-router.logs at.0 next.0 (sym (kept_some c.loop-router.logs) ∙ (are.keeps ∙ kept_so)) c.take_log-events.ensures.log are.logs_are) in
-    subst (λ t. IsRouterOf t x) (λ i. timeline_at (sym v_is i).case (sym v_is i).keeps (sym v_is i).time (sym node i)) of
+    let of = comes s.case c.requires.case s.time from s.retains x next.1 traced
+    (λ kept_so. log_of s from c.node-number.result c.take_log-events.result.items c.loop-router.logs at.0 next.0 (sym (retained_some c.loop-router.logs) ∙ (are.retains ∙ kept_so)) c.take_log-events.ensures.log are.logs_are) in
+    subst (λ t. IsRouterOf t x) (λ i. timeline_at (sym v_is i).case (sym v_is i).retains (sym v_is i).time (sym node i)) of
 
 pub loop-router-preserved : goal.loop-router-preserved
 loop-router-preserved c =
     let s = start_from c.args.owners.now c.args.vacant.items in
     let from = c.loop-router.invariant.from in
-    let logs = kept c.loop-router.logs in
-    let later = kept c.take_log-events.new.logs in
+    let logs = retained c.loop-router.logs in
+    let later = retained c.take_log-events.new.logs in
     let vs = c.loop-router.vacant.items in
     let number = c.node-number.result in
     let rest = into_iter_items c.next.new.self in
@@ -147,4 +147,4 @@ returns c =
     let s = start_from c.args.owners.now c.args.vacant.items in
     let was = c.loop-router.invariant in
     let none = nil_from_length (into_iter_items c.loop-router.router-iterator) (was.rest ∙ c.in-None.ensures.steps.0) in
-    all_came s was.from (kept c.loop-router.logs) c.loop-router.vacant.items (subst (λ rs. AreComing s was.from rs (kept c.loop-router.logs) c.loop-router.vacant.items) none was.coming)
+    all_came s was.from (retained c.loop-router.logs) c.loop-router.vacant.items (subst (λ rs. AreComing s was.from rs (retained c.loop-router.logs) c.loop-router.vacant.items) none was.coming)

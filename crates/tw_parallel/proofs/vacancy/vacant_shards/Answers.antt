@@ -21,7 +21,7 @@ push_reserved-requires c =
 
 pub loop-worker-preserved : goal.loop-worker-preserved
 loop-worker-preserved c =
-    let start : Start = record { case = c.args.case.now; owners = c.args.owners.now; workers = c.args.workers; time = c.args.time; keeps = c.args.keeps; cancel = c.args.cancel } in
+    let start : Start = record { case = c.args.case.now; owners = c.args.owners.now; workers = c.args.workers; time = c.args.time; retains = c.args.retains; cancel = c.args.cancel } in
     let items = c.loop-worker.vacant.items in
     let v = c.in_ok-at.field-0 in
     let count = c.loop-worker.invariant.count in

@@ -5,7 +5,7 @@ use Rattle.tw_parallel.proofs.vacancy.vacant_shards.Given as goal
 
 abbrev pub invariant-loop-worker : goal.invariant-loop-worker
 invariant-loop-worker l =
-    let start : Start = record { case = l.case; owners = l.owners; workers = l.workers; time = l.time; keeps = l.keeps; cancel = l.cancel } in
+    let start : Start = record { case = l.case; owners = l.owners; workers = l.workers; time = l.time; retains = l.retains; cancel = l.cancel } in
     record {
       count : length l.vacant.items ≡ l.worker;
       room : l.workers ≤ vec_capacity l.vacant;

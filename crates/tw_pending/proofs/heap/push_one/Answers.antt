@@ -1,6 +1,6 @@
 use Rattle.std.proofs.Common.{IsOk, OnOk, Ok, Err, Result, arith}
 use Rattle.std.specs.BinaryHeap.{heap_items}
-use Rattle.tw_pending.proofs.Heaps.{put}
+use Rattle.tw_pending.proofs.Counts.{pushed}
 use Rattle.tw_pending.proofs.heap.push_one.Goals as goal
 
 held : {T F P : Type 0} (r : Result T F) → IsOk r → OnOk r P → P
@@ -15,5 +15,5 @@ returns g c =
       heap = held _ ok p.heap_order c.requires.heap;
       len = held _ ok p.len;
       capacity = p.capacity;
-      events = put g.E.Ord.cmp g.met.E.Ord.total g.met.E.Timed.exact _ (heap_items c.args.heap.now) (heap_items c.push.new.self) (held _ ok p.permutation);
+      events = pushed g.E.Ord.cmp _ (heap_items c.args.heap.now) (heap_items c.push.new.self) (held _ ok p.permutation);
     }

@@ -14,5 +14,5 @@ returns-clause-by g c =
       settled = told.settled;
       stop = told.stop;
       dealt = told.dealt;
-      keeps = λ log. told.goes_on.keeps (begun.keeps log);
+      retains = λ log. told.goes_on.retains (begun.retains log);
     })

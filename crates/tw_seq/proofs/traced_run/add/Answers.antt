@@ -1,7 +1,7 @@
 use Rattle.std.proofs.Common.{◌∙◌, ◌++◌, ◌∷◌, [], Some, ap, refl, sym, subst, IfSome, arith}
 use Rattle.std.specs.Option.{option_map}
-use Rattle.tw_seq.specs.Traced.{HasRoom, kept, push_at}
-use Rattle.tw_seq.proofs.Kept.{lists_push, room_is, room_within}
+use Rattle.tw_seq.specs.Traced.{HasRoom, push_at, retained}
+use Rattle.tw_seq.proofs.Retained.{lists_push, room_is, room_within}
 use Rattle.tw_seq.proofs.traced_run.add.Goals as goal
 
 pub index_mut-requires : goal.index_mut-requires
@@ -22,4 +22,4 @@ returns-in-Some c =
     let room = subst (λ logs. IfSome logs (HasRoom e.dst)) c.in-Some.is c.requires in
     let pushed = c.push_reserved.ensures.items ∙ ap (λ log. log.items ++ e ∷ []) c.index_mut.ensures.value in
     ap Some (lists_push c.in-Some.logs.items e.dst c.push_reserved.new.self c.index_mut.result.now e refl (room_within e.dst c.in-Some.logs.items room) pushed)
-    ∙ ap (λ logs. option_map (λ lists. push_at lists e) (kept logs)) (sym c.in-Some.is)
+    ∙ ap (λ logs. option_map (λ lists. push_at lists e) (retained logs)) (sym c.in-Some.is)

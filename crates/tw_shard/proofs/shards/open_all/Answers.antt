@@ -29,8 +29,8 @@ loop-worker-preserved c =
       count = ap length c.push_reserved.ensures.items ∙ omega arith;
       room = omega arith;
       each = λ k h.
-          subst (λ xs. IsOpeningShard c.args.case.now k c.args.workers c.args.keeps c.args.cancel (get_or xs k no_shard)) (sym c.push_reserved.ensures.items)
-          (one_more (λ k s. IsOpeningShard c.args.case.now k c.args.workers c.args.keeps c.args.cancel s) items s no_shard c.loop-worker.worker count c.loop-worker.invariant.each
+          subst (λ xs. IsOpeningShard c.args.case.now k c.args.workers c.args.retains c.args.cancel (get_or xs k no_shard)) (sym c.push_reserved.ensures.items)
+          (one_more (λ k s. IsOpeningShard c.args.case.now k c.args.workers c.args.retains c.args.cancel s) items s no_shard c.loop-worker.worker count c.loop-worker.invariant.each
           c.in_ok-open_with.ensures k h);
     }
 

@@ -7,5 +7,5 @@ abbrev pub invariant-loop-worker : goal.invariant-loop-worker
 invariant-loop-worker l = record {
   count : length l.shards.items ≡ l.worker;
   room : l.workers ≤ vec_capacity l.shards;
-  each : (k : ℕ) → k < l.worker → IsOpeningShard l.case k l.workers l.keeps l.cancel (get_or l.shards.items k no_shard);
+  each : (k : ℕ) → k < l.worker → IsOpeningShard l.case k l.workers l.retains l.cancel (get_or l.shards.items k no_shard);
 }

@@ -11,8 +11,8 @@ receive_welcome-requires c =
     welcome c.requires.work.0 s x (drop (hand.next + 1) hand.mail.items) c.requires.work.1
     (drop_one hand.mail.items hand.next x c.requires.some ∙ ap (λ y. y ∷ drop (hand.next + 1) hand.mail.items) (sym c.index.ensures))
 
-pub returns-in_err-receive_welcome-clause-kept : goal.returns-in_err-receive_welcome-clause-kept
-returns-in_err-receive_welcome-clause-kept c = λ stop work.
+pub returns-in_err-receive_welcome-clause-preserved : goal.returns-in_err-receive_welcome-clause-preserved
+returns-in_err-receive_welcome-clause-preserved c = λ stop work.
     let hand = c.args.hand.now in
     let x = c.index.result.now in
     let s = share c.args.shard.now hand in
@@ -21,8 +21,8 @@ returns-in_err-receive_welcome-clause-kept c = λ stop work.
     (drop_one hand.mail.items hand.next x c.requires.some ∙ ap (λ y. y ∷ drop (hand.next + 1) hand.mail.items) (sym c.index.ensures))
     c.receive_welcome.ensures.same (c.in_err-receive_welcome.ensures.memory stop) refl refl
 
-pub returns-clause-kept : goal.returns-clause-kept
-returns-clause-kept c = λ stop work.
+pub returns-clause-preserved : goal.returns-clause-preserved
+returns-clause-preserved c = λ stop work.
     let hand = c.args.hand.now in
     let x = c.index.result.now in
     let rest = drop (hand.next + 1) hand.mail.items in

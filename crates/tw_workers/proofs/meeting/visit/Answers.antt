@@ -37,7 +37,7 @@ visit_given c =
     let s = share_of c.args.held.now in
     let q = share c.args.shard.now c.args.hand.now in
     let rises = subst (λ b. b ≤ y.bound) (ap (λ b. b.bound) c.requires.fresh) c.visit_dealt.ensures.rising in
-    visited_whole x y c.args.stop s q (after c) c.requires.met c.requires.board c.requires.stop c.requires.kept c.requires.delivered c.requires.sorted rises (is_visited c)
+    visited_whole x y c.args.stop s q (after c) c.requires.met c.requires.board c.requires.stop c.requires.preserved c.requires.delivered c.requires.sorted rises (is_visited c)
 
 pub returns-in-Ok-clause-given : goal.returns-in-Ok-clause-given
 returns-in-Ok-clause-given c =
@@ -61,7 +61,7 @@ refuse-requires c =
     let q = share c.args.shard.now c.args.hand.now in
     let out = c.args.hand.now.out.items in
     let home : is_homeless out (exchange_of c.args.held.now) ≡ false =
-    ap (is_homeless out) c.requires.fresh ∙ not_homeless x c.args.stop s q c.requires.met c.requires.stop c.requires.kept in
+    ap (is_homeless out) c.requires.fresh ∙ not_homeless x c.args.stop s q c.requires.met c.requires.stop c.requires.preserved in
     record {
       memory = for_memory c.in-Err.why (λ why. c.requires.no_worker (c.in-Err.is ∙ ap Err why)) (λ why. c.requires.early (c.in-Err.is ∙ ap Err why))
           (λ why. cc (home, c.requires.no_router (c.in-Err.is ∙ ap Err why)));
@@ -70,7 +70,7 @@ refuse-requires c =
 pub returns-in-Err-clause-given : goal.returns-in-Err-clause-given
 returns-in-Err-clause-given c =
     stayed_given (taken_by c.args.held.now) (exchange_of c.refuse.new.held) c.args.stop (share_of c.args.held.now) (share c.args.shard.now c.args.hand.now) c.requires.met c.requires.stop
-    c.requires.kept (c.refuse.ensures.board ∙ ap board_of c.requires.fresh)
+    c.requires.preserved (c.refuse.ensures.board ∙ ap board_of c.requires.fresh)
 
 -- and what could not be deposited did
 pub refuse-requires-in-Err-visit_dealt : goal.refuse-requires-in-Err-visit_dealt
@@ -83,7 +83,7 @@ refuse-requires-in-Err-visit_dealt c =
     let told = c.in-Err-visit_dealt.ensures in
     let dealt = taken_up c.args.dealt (AreDealt z.owners (workers z) out c.args.parcels.now) (λ why is. c.in_default.not-Err why is) c.requires.dealt in
     let soon : is_early out c.report_time.result z ≡ false =
-    (λ i. is_early out (c.report_time.ensures i) (c.requires.fresh i)) ∙ not_early x c.args.stop s q c.requires.met c.requires.stop c.requires.kept c.requires.delivered in
+    (λ i. is_early out (c.report_time.ensures i) (c.requires.fresh i)) ∙ not_early x c.args.stop s q c.requires.met c.requires.stop c.requires.preserved c.requires.delivered in
     record { memory = for_memory c.in-Err-visit_dealt.why (λ why. told.there (ap Err why)) (λ why. cc (soon, (told.early out dealt).0 (ap Err why))) (λ why. told.no_router (ap Err why)) }
 
 pub returns-in-Err-visit_dealt-clause-given : goal.returns-in-Err-visit_dealt-clause-given
@@ -96,7 +96,7 @@ returns-in-Err-visit_dealt-clause-given c =
     let board : board_of y ≡ board_of x = c.refuse-in-Err-visit_dealt.ensures.board ∙ ap board_of (c.in-Err-visit_dealt.ensures.err ∙ c.requires.fresh) in
     let mail : drop hand.next hand.mail.items ≡ drop 0 c.visit_dealt.new.mail.items = c.requires.delivered ∙ sym (drop_none c.visit_dealt.new.mail.items ∙ c.in-Err-visit_dealt.ensures.no_mail) in
     subst (λ m. MayBeGiven x s y (record { shard = shard; mail = m; unsent = hand.out.items })) mail
-    (stayed_given x y c.args.stop s (share shard hand) c.requires.met c.requires.stop c.requires.kept board)
+    (stayed_given x y c.args.stop s (share shard hand) c.requires.met c.requires.stop c.requires.preserved board)
 
 pub returns-in-Err-visit_dealt-clause-refused : goal.returns-in-Err-visit_dealt-clause-refused
 returns-in-Err-visit_dealt-clause-refused c = λ refused.
@@ -108,6 +108,6 @@ returns-in-Err-visit_dealt-clause-refused c = λ refused.
     let told = c.in-Err-visit_dealt.ensures in
     let dealt = taken_up c.args.dealt (AreDealt z.owners (workers z) out c.args.parcels.now) (λ why is. c.in_default.not-Err why is) c.requires.dealt in
     let soon : is_early out c.report_time.result z ≡ false =
-    (λ i. is_early out (c.report_time.ensures i) (c.requires.fresh i)) ∙ not_early x c.args.stop s q c.requires.met c.requires.stop c.requires.kept c.requires.delivered in
+    (λ i. is_early out (c.report_time.ensures i) (c.requires.fresh i)) ∙ not_early x c.args.stop s q c.requires.met c.requires.stop c.requires.preserved c.requires.delivered in
     told.memory out dealt
     (ap Err (for_memory c.in-Err-visit_dealt.why (λ why. told.there (ap Err why)) (λ why. cc (soon, (told.early out dealt).0 (ap Err why))) (λ why. told.no_router (ap Err why))))

@@ -1,5 +1,5 @@
 use Rattle.std.proofs.Common.{sym, ◌∙◌}
-use Rattle.tw_engine.specs.Process.{core_of}
+use Rattle.tw_engine.specs.Process.{process_core}
 use Rattle.tw_engine.proofs.Undoing.{loop_step, shorter}
 use Rattle.tw_process.specs.Behaviour.{simulation_of}
 use Rattle.tw_engine.proofs.logical.LogicalProcess.undo_to.Goals as goal
@@ -19,4 +19,4 @@ loop-self-preserved g c =
 pub loop-self-smaller : goal.loop-self-smaller
 loop-self-smaller g c =
     let m = simulation_of g.M.Event.Timed.parts g.M.Event.Ord.cmp (g.M.ProcessModel.behaviour c.loop-self.self.model) in
-    shorter m (core_of 0 c.loop-self.self) (core_of 0 c.undo_one.new.self) c.loop-self.self.number c.loop-self.self.history c.undo_one.new.self.history (c.in_ok-undo_one.ensures.ok 0)
+    shorter m (process_core 0 c.loop-self.self) (process_core 0 c.undo_one.new.self) c.loop-self.self.number c.loop-self.self.history c.undo_one.new.self.history (c.in_ok-undo_one.ensures.ok 0)

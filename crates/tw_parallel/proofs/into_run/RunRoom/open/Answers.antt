@@ -3,7 +3,7 @@ use Rattle.tw_event.specs.Order.{event_before}
 use Rattle.tw_model.specs.Case.{simulation}
 use Rattle.tw_parallel.proofs.Ends.{change_of_run}
 use Rattle.tw_parallel.proofs.Removing.{rest_again}
-use Rattle.tw_parallel.specs.Removal.{HaveLeft}
+use Rattle.tw_parallel.specs.Removal.{AreRemoved}
 use Rattle.tw_parallel.specs.Sim.{IsSim, Sim}
 use Rattle.tw_ordered.specs.Queue.{AreFor}
 use Rattle.tw_shard.proofs.Cuts.{given_home}
@@ -27,10 +27,10 @@ returns c =
     let waiting = c.deref.ensures.value ∙ c.in_ok-waiting.ensures.value in
     let nodes = c.nodes-nodes.ensures.value ∙ (ap (λ net. net.nodes) c.instance.ensures.value ∙ ap (λ (t : Sim). t.case.net.nodes) c.sim.view_is) in
     record {
-      removal = subst (λ n. HaveLeft s.case s.board.stop n 0 c.in_ok-removal.removal) nodes (c.in_ok-removal.ensures.none s.case s.board.stop);
-      keeps = (
-        (λ some. c.keeps_events.ensures.0 (sym c.in_ok-removal.ensures.keeps ∙ some)),
-        (λ all. c.in_ok-removal.ensures.keeps ∙ c.keeps_events.ensures.1 all),
+      removal = subst (λ n. AreRemoved s.case s.board.stop n 0 c.in_ok-removal.removal) nodes (c.in_ok-removal.ensures.none s.case s.board.stop);
+      retains = (
+        (λ some. c.retains_events.ensures.0 (sym c.in_ok-removal.ensures.retains ∙ some)),
+        (λ all. c.in_ok-removal.ensures.retains ∙ c.retains_events.ensures.1 all),
       );
       pending = c.in_ok-pending.ensures.events ∙ rest_again s is c.requires c.deref.result.now waiting;
       homes = c.in_ok-pending.ensures.routers ∙ nodes;

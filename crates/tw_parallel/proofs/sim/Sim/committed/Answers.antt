@@ -1,10 +1,10 @@
 use Rattle.std.proofs.Common.{ap, sym, ◌∙◌, subst}
 use Rattle.tw_core.specs.Run.{IsSeq}
 use Rattle.tw_model.specs.Case.{simulation}
-use Rattle.tw_parallel.proofs.Owners.{have_all, keep_all, same_committed, seq_of}
+use Rattle.tw_parallel.proofs.Owners.{have_all, retain_all, same_committed, seq_of}
 use Rattle.tw_parallel.specs.Inside.{sim_of}
-use Rattle.tw_parallel.specs.Sim.{KeepsEvents, Sim, committed_events, machine}
-use Rattle.tw_shard.specs.Shards.{HaveAll, KeepAll, committed_of_all}
+use Rattle.tw_parallel.specs.Sim.{RetainsEvents, Sim, committed_events, machine}
+use Rattle.tw_shard.specs.Shards.{HaveAll, RetainAll, committed_of_all}
 use Rattle.tw_parallel.proofs.sim.Sim.committed.Goals as goal
 
 pub committed_events-requires : goal.committed_events-requires
@@ -13,7 +13,7 @@ committed_events-requires c =
     let s = sim_of a in
     record {
       all = subst (HaveAll s.case) (sym c.deref.ensures.value) (have_all a c.self.invariant);
-      kept = subst (KeepAll s.case) (sym c.deref.ensures.value) (keep_all a c.self.invariant (subst KeepsEvents (sym c.self.view_is) c.requires));
+      retained = subst (RetainAll s.case) (sym c.deref.ensures.value) (retain_all a c.self.invariant (subst RetainsEvents (sym c.self.view_is) c.requires));
     }
 
 pub returns-in_err-events-clause-seq : goal.returns-in_err-events-clause-seq

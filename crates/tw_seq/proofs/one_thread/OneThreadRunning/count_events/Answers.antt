@@ -1,6 +1,6 @@
 use Rattle.std.proofs.Common.{ap, sym, length, ◌∙◌, arith}
 use Rattle.tw_instance.proofs.Sound.{is_whole}
-use Rattle.tw_seq.specs.Thread.{count_of, run_of}
+use Rattle.tw_seq.specs.Thread.{handled_count, run_of}
 use Rattle.tw_seq.proofs.Handled.{length-routers}
 use Rattle.tw_seq.proofs.Measured.{count_is}
 use Rattle.tw_seq.proofs.one_thread.OneThreadRunning.count_events.Goals as goal
@@ -16,4 +16,4 @@ count_handled-requires c =
 pub returns : goal.returns
 returns c =
     let a = c.self.inside in
-    c.count_handled.ensures ∙ (ap count_of (c.deref.ensures.value ∙ c.self.invariant.routers) ∙ (count_is (run_of a) c.self.invariant.begun ∙ ap (λ run. length run.events) c.self.view_is))
+    c.count_handled.ensures ∙ (ap handled_count (c.deref.ensures.value ∙ c.self.invariant.routers) ∙ (count_is (run_of a) c.self.invariant.begun ∙ ap (λ run. length run.events) c.self.view_is))

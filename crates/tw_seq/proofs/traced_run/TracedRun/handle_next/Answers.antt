@@ -4,7 +4,7 @@ use Rattle.tw_seq.specs.Run.{IsNext}
 use Rattle.tw_seq.specs.Traced.{lists_of, logs_after, no_trace, noted, trace_after, traces_after}
 use Rattle.tw_seq.proofs.Fields.{other_items}
 use Rattle.tw_seq.proofs.Homes.{next_home}
-use Rattle.tw_seq.proofs.Kept.{kept_next, kept_same, kept_within}
+use Rattle.tw_seq.proofs.Retained.{retained_next, retained_same, retained_within}
 use Rattle.tw_seq.proofs.Logged.{next_events}
 use Rattle.tw_seq.proofs.Noted.{next_traces}
 use Rattle.tw_seq.proofs.traced_run.TracedRun.handle_next.Goals as goal
@@ -21,7 +21,7 @@ within c = next_home c.self.inside.run c.args.event.now c.self.invariant.begun (
 pub make_room-requires : goal.make_room-requires
 make_room-requires c =
     let a = c.self.inside in
-    kept_within a.run.case a.run.events a.logs c.args.event.now.dst c.self.invariant.logs (within (goal.at.make_room-requires c).After-self)
+    retained_within a.run.case a.run.events a.logs c.args.event.now.dst c.self.invariant.logs (within (goal.at.make_room-requires c).After-self)
 
 pub note-requires : goal.note-requires
 note-requires c =
@@ -39,7 +39,7 @@ invariant_of-self-2 c =
     let next = c.handle_next.new.self in
     let events : next.events ≡ a.run.events ++ e ∷ [] = next_events a.run next e (first d) told.ok in
     let traces = c.deref_mut.ensures.value ∙ c.self.invariant.traces in
-    let same = kept_same a.run.case a.run.events a.logs c.make_room.new.logs c.make_room.ensures.same c.self.invariant.logs in
+    let same = retained_same a.run.case a.run.events a.logs c.make_room.new.logs c.make_room.ensures.same c.self.invariant.logs in
     record {
       begun = told.begun;
       traces =
@@ -50,5 +50,5 @@ invariant_of-self-2 c =
           ∙ λ i. traces_after (sym told.ok.0 i) (sym events i))));
       logs =
           subst (λ lists. IfSome c.add.new.logs (λ logs. lists_of logs.items ≡ lists)) (λ i. logs_after (sym told.ok.0 i) (sym events i))
-          (kept_next a.run.case a.run.events c.make_room.new.logs c.add.new.logs e c.add.ensures (within d) same);
+          (retained_next a.run.case a.run.events c.make_room.new.logs c.add.new.logs e c.add.ensures (within d) same);
     }

@@ -2,7 +2,7 @@ use Rattle.std.proofs.Common.{◌≡◌, IfSome, ap, subst, sym, ◌∙◌}
 use Rattle.tw_seq.specs.Traced.{lists_of, logs_after, traces_after}
 use Rattle.tw_seq.proofs.Noted.{opening_logs_are, opening_traces_are}
 use Rattle.tw_seq.proofs.traced_run.TracedRun.new.Goals as goal
-use Rattle.tw_seq.proofs.traced_run.TracedRun.new.Goals.{then-keeps+in_ok-empty_logs, else-keeps}
+use Rattle.tw_seq.proofs.traced_run.TracedRun.new.Goals.{else-retains, then-retains+in_ok-empty_logs}
 
 pub invariant_of-result : goal.invariant_of-result
 invariant_of-result c =
@@ -13,10 +13,10 @@ invariant_of-result c =
     record {
       begun = c.in_ok-run.ensures.begun;
       traces = c.in_ok-traces.ensures ∙ (opening_traces_are case _ nodes ∙ ap (λ r. traces_after r.case r.events) (sym opened));
-      logs = elim c.if-keeps.branch [
-        | then-keeps+in_ok-empty_logs w ↦
+      logs = elim c.if-retains.branch [
+        | then-retains+in_ok-empty_logs w ↦
             subst (λ o. IfSome o (λ logs. lists_of logs.items ≡ logs_after run.case run.events)) (sym w.logs-is)
             (w.in_ok-empty_logs.ensures ∙ (opening_logs_are case _ nodes ∙ ap (λ r. logs_after r.case r.events) (sym opened)))
-        | else-keeps w ↦ subst (λ o. IfSome o (λ logs. lists_of logs.items ≡ logs_after run.case run.events)) (sym w.logs-is) tt
+        | else-retains w ↦ subst (λ o. IfSome o (λ logs. lists_of logs.items ≡ logs_after run.case run.events)) (sym w.logs-is) tt
       ];
     }

@@ -1,7 +1,7 @@
 use Rattle.std.proofs.Common.{◌==◌, ◌++◌, ◌∷◌, [], if◌then◌else◌, ap, sym, ◌∙◌}
 use Rattle.tw_shard.specs.Roster.{has}
 use Rattle.tw_sim.specs.Owners.{owner}
-use Rattle.tw_shard.proofs.Rosters.{fresh, next_own}
+use Rattle.tw_shard.proofs.OwnRouters.{fresh, next_own}
 use Rattle.tw_shard.proofs.roster.Roster.in_turn.Goals as goal
 
 pub loop-router-preserved : goal.loop-router-preserved

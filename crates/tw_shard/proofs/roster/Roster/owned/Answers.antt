@@ -2,7 +2,7 @@ use Rattle.std.proofs.Common.{◌≡◌, ◌==◌, ◌++◌, ◌∷◌, [], if�
 use Rattle.std.specs.List.{range_with_len}
 use Rattle.std.proofs.lemmas.List.{get_or_default}
 use Rattle.tw_shard.specs.Roster.{has}
-use Rattle.tw_shard.proofs.Rosters.{fresh, next_own}
+use Rattle.tw_shard.proofs.OwnRouters.{fresh, next_own}
 use Rattle.tw_shard.proofs.roster.Roster.owned.Goals as goal
 
 pub loop-router-preserved : goal.loop-router-preserved

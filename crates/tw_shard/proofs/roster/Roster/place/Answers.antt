@@ -1,11 +1,11 @@
 use Rattle.std.proofs.Common.{◌≡◌, ◌<◌, ℕ, Some, true, length, slice_get, ap, sym, subst, ◌∙◌}
 use Rattle.std.proofs.lemmas.Option.{get_or_from_slice_get, slice_get_within}
 use Rattle.tw_shard.specs.declared.roster.Roster.TheInside.{Inside}
-use Rattle.tw_shard.specs.Roster.{IsPlaced, Roster, has, place_in, roster_of}
+use Rattle.tw_shard.specs.Roster.{IsIndexed, Roster, has, place_in, roster_of}
 use Rattle.tw_shard.proofs.Rosters.{noted_place, stands}
 use Rattle.tw_shard.proofs.roster.Roster.place.Goals as goal
 
-noted : (a : Inside) (x : Roster) (r : ℕ) → roster_of a ≡ x → IsPlaced a → has x.routers r ≡ true → slice_get a.places.items r ≡ Some (place_in x.routers r)
+noted : (a : Inside) (x : Roster) (r : ℕ) → roster_of a ≡ x → IsIndexed a → has x.routers r ≡ true → slice_get a.places.items r ≡ Some (place_in x.routers r)
 noted a x r is t here =
     noted_place a.routers.items a.places.items t r (ap (λ x. has x.routers r) is ∙ here) ∙ ap (λ x. Some (place_in x.routers r)) is
 

@@ -3,11 +3,11 @@ use Rattle.std.specs.List.{swap_remove}
 use Rattle.std.proofs.lemmas.List.{get_or_default, length-set}
 use Rattle.std.proofs.lemmas.Option.{get_or_from_slice_get, slice_get_within}
 use Rattle.tw_shard.specs.declared.roster.Roster.TheInside.{Inside}
-use Rattle.tw_shard.specs.Roster.{IsPlaced, IsTableOf, IsWithout, Roster, Stands, has, place_in, roster_of}
+use Rattle.tw_shard.specs.Roster.{IsIndexed, IsTableOf, IsWithout, Roster, StandsInList, has, place_in, roster_of}
 use Rattle.tw_shard.proofs.Rosters.{moved_known, noted_place, stands, table_moved, table_shorter, without_of}
 use Rattle.tw_shard.proofs.roster.Roster.remove.Goals as goal
 
-module _ (a : Inside) (x : Roster) (r : ℕ) (is : roster_of a ≡ x) (t : IsPlaced a) (own : has x.routers r ≡ true) where
+module _ (a : Inside) (x : Roster) (r : ℕ) (is : roster_of a ≡ x) (t : IsIndexed a) (own : has x.routers r ≡ true) where
   abbrev rs : List ℕ
   rs = a.routers.items
 
@@ -24,8 +24,8 @@ module _ (a : Inside) (x : Roster) (r : ℕ) (is : roster_of a ≡ x) (t : IsPla
     at : p ≡ place_in rs r
     at = read ∙ get_or_from_slice_get a.places.items r (place_in rs r) p noted
 
-    there : Stands rs p r
-    there = subst (λ p. Stands rs p r) (sym at) (stands rs r here)
+    there : StandsInList rs p r
+    there = subst (λ p. StandsInList rs p r) (sym at) (stands rs r here)
 
     at_now : p ≡ place_in x.routers r
     at_now = at ∙ ap (λ x. place_in x.routers r) is

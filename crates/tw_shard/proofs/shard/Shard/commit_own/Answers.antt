@@ -26,9 +26,9 @@ invariant_of-self-2 c =
           ∙ (c.in_ok-commit_at.ensures.ok ∙ λ i. set (c.deref_mut.ensures.value i) (at i) (committed_to a.bound (there i)));
       kept = refl;
       bound = refl;
-      keeps = refl;
+      retains = refl;
       cancel = refl;
       pending_routers = refl;
       kept_routers = refl;
       held_routers = refl;
-    }) own.net own.node (omega arith) own.case own.keeps c.self.invariant.whole.pending c.self.invariant.whole.held (omega arith) (subst (AllByRecursion (λ x. x.time ≤ a.latest)) (sym (kept_history a.bound (timeline s r))) (c.self.invariant.latest r mine))
+    }) own.net own.node (omega arith) own.case own.retains c.self.invariant.whole.pending c.self.invariant.whole.held (omega arith) (subst (AllByRecursion (λ x. x.time ≤ a.latest)) (sym (kept_history a.bound (timeline s r))) (c.self.invariant.latest r mine))

@@ -6,7 +6,7 @@ use Rattle.tw_model.specs.Case.{simulation}
 use Rattle.tw_model.specs.Effect.{suits}
 use Rattle.tw_ordered.proofs.Told.{on_false, on_true}
 use Rattle.tw_shard.specs.Inside.{IsShard}
-use Rattle.tw_shard.specs.Shard.{Shard, core}
+use Rattle.tw_shard.specs.Shard.{Shard, shard_core}
 use Rattle.tw_shard.proofs.Queues.{head_next, head_suits, least_first}
 use Rattle.tw_sim.specs.Ordered.{least}
 use Rattle.tw_shard.proofs.shard.Shard.copy_least.Goals as goal
@@ -37,7 +37,7 @@ returns-clause-next c = λ stop.
     let a = c.self.inside in
     let e = c.copy_least_before.new.event in
     on_true c.copy_least_before.result (λ some.
-    ap (λ (s : Shard). first_pending (simulation s.case) (core stop s) e.dst) (sym c.self.view_is)
+    ap (λ (s : Shard). first_pending (simulation s.case) (shard_core stop s) e.dst) (sym c.self.view_is)
     ∙ head_next a.case.now c.self.invariant.whole.case e a.pending.events c.copy_least_before.ensures.queue.rising (sym some)) c.copy_least_before.ensures.some
 
 pub returns-clause-suits : goal.returns-clause-suits

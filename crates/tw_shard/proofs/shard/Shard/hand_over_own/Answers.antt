@@ -1,7 +1,7 @@
 use Rattle.std.proofs.Common.{◌≡◌, ◌++◌, ◌∷◌, [], true, false, ap, sym, subst, ◌∙◌, arith}
 use Rattle.tw_shard.specs.Inside.{HasHandledTo, shard_of}
-use Rattle.tw_shard.specs.Moving.{HasCome, HasLeft}
-use Rattle.tw_shard.specs.Shard.{IsWhole, Shard, owns}
+use Rattle.tw_shard.specs.Moving.{HasMovedIn, HasMovedOut}
+use Rattle.tw_shard.specs.Shard.{IsSoundShard, Shard, owns}
 use Rattle.tw_shard.proofs.HandingOver.{after_coming, after_leaving, has_come, has_left, latest_come, latest_left, whole_come, whole_left}
 use Rattle.tw_shard.proofs.shard.Shard.hand_over_own.Goals as goal
 
@@ -14,8 +14,8 @@ new c = ap (λ s. owns s c.args.router) c.to.view_is ∙ c.requires.new
 same_case : (c : goal.After-count_coming) → (shard_of c.to.inside).case ≡ (shard_of c.self.inside).case
 same_case c = ap (λ s. s.case) c.to.view_is ∙ (c.requires.case ∙ ap (λ s. s.case) (sym c.self.view_is))
 
-same_keeps : (c : goal.After-count_coming) → (shard_of c.to.inside).keeps ≡ (shard_of c.self.inside).keeps
-same_keeps c = ap (λ s. s.keeps) c.to.view_is ∙ (c.requires.keeps ∙ ap (λ s. s.keeps) (sym c.self.view_is))
+same_keeps : (c : goal.After-count_coming) → (shard_of c.to.inside).retains ≡ (shard_of c.self.inside).retains
+same_keeps c = ap (λ s. s.retains) c.to.view_is ∙ (c.requires.retains ∙ ap (λ s. s.retains) (sym c.self.view_is))
 
 abbrev left : goal.After-count_coming → Shard
 left c =
@@ -38,7 +38,7 @@ self_now c = record {
   outgoing = c.self.inside.outgoing.items;
   held = c.hand_over_waiting.new.held.events;
   bound = c.self.inside.bound;
-  keeps = c.self.inside.keeps;
+  retains = c.self.inside.retains;
   cancel = c.self.inside.cancel;
 }
 
@@ -54,7 +54,7 @@ to_now c = record {
   outgoing = c.to.inside.outgoing.items;
   held = c.hand_over_waiting.new.to_held.events;
   bound = c.max-to-inside-2.result;
-  keeps = c.to.inside.keeps;
+  retains = c.to.inside.retains;
   cancel = c.to.inside.cancel;
 }
 
@@ -73,7 +73,7 @@ left_is c =
       outgoing = s.outgoing;
       held = sym given.held i;
       bound = s.bound;
-      keeps = s.keeps;
+      retains = s.retains;
       cancel = s.cancel;
     }
 
@@ -98,7 +98,7 @@ come_is c =
       outgoing = t.outgoing;
       held = sym given.to_held i;
       bound = sym c.max-to-inside-2.ensures i;
-      keeps = t.keeps;
+      retains = t.retains;
       cancel = t.cancel;
     }
 
@@ -107,7 +107,7 @@ invariant_of-self-2 c =
     let a = c.self.inside in
     let given = c.hand_over_waiting.ensures in
     record {
-      whole = subst IsWhole (left_is c) (whole_left (shard_of a) c.args.router c.self.invariant.whole (mine c) c.take_out-timeline.new.roster.routers c.take_out-timeline.new.timelines.items
+      whole = subst IsSoundShard (left_is c) (whole_left (shard_of a) c.args.router c.self.invariant.whole (mine c) c.take_out-timeline.new.roster.routers c.take_out-timeline.new.timelines.items
           c.take_out-timeline.ensures.routers c.take_out-timeline.ensures.timelines);
       roster = c.take_out-timeline.ensures.count ∙ c.self.invariant.roster;
       pending = given.routers ∙ c.self.invariant.pending;
@@ -121,7 +121,7 @@ pub invariant_of-to-2 : goal.invariant_of-to-2
 invariant_of-to-2 c =
     let given = c.hand_over_waiting.ensures in
     record {
-      whole = subst IsWhole (come_is c) (whole_come (shard_of c.self.inside) (shard_of c.to.inside) c.args.router c.self.invariant.whole (mine c) c.to.invariant.whole (new c) (same_case c) (same_keeps c));
+      whole = subst IsSoundShard (come_is c) (whole_come (shard_of c.self.inside) (shard_of c.to.inside) c.args.router c.self.invariant.whole (mine c) c.to.invariant.whole (new c) (same_case c) (same_keeps c));
       roster = c.add.ensures.count ∙ (c.reserve_one.ensures.count ∙ c.to.invariant.roster);
       pending = given.to_routers ∙ c.to.invariant.pending;
       kept = given.to_kept_routers ∙ c.to.invariant.kept;
@@ -132,14 +132,14 @@ invariant_of-to-2 c =
 
 pub returns-clause-left : goal.returns-clause-left
 returns-clause-left c =
-    subst (λ s. HasLeft c.args.router s (self_now c)) c.self.view_is
-    (subst (HasLeft c.args.router (shard_of c.self.inside)) (left_is c)
+    subst (λ s. HasMovedOut c.args.router s (self_now c)) c.self.view_is
+    (subst (HasMovedOut c.args.router (shard_of c.self.inside)) (left_is c)
     (has_left (shard_of c.self.inside) c.args.router c.self.invariant.whole (mine c) c.take_out-timeline.new.roster.routers c.take_out-timeline.new.timelines.items
     c.take_out-timeline.ensures.routers c.take_out-timeline.ensures.timelines))
 
 pub returns-clause-came : goal.returns-clause-came
 returns-clause-came c =
-    subst (λ s. HasCome c.args.router s c.args.to.now (to_now c)) c.self.view_is
-    (subst (λ t. HasCome c.args.router (shard_of c.self.inside) t (to_now c)) c.to.view_is
-    (subst (HasCome c.args.router (shard_of c.self.inside) (shard_of c.to.inside)) (come_is c)
+    subst (λ s. HasMovedIn c.args.router s c.args.to.now (to_now c)) c.self.view_is
+    (subst (λ t. HasMovedIn c.args.router (shard_of c.self.inside) t (to_now c)) c.to.view_is
+    (subst (HasMovedIn c.args.router (shard_of c.self.inside) (shard_of c.to.inside)) (come_is c)
     (has_come (shard_of c.self.inside) (shard_of c.to.inside) c.args.router c.self.invariant.whole (mine c) c.to.invariant.whole (new c) (same_case c) (same_keeps c))))

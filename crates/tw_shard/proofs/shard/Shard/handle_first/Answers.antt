@@ -3,12 +3,12 @@ use Rattle.tw_core.specs.Steps.{first_pending}
 use Rattle.tw_event.specs.declared.event.Event.{Event}
 use Rattle.tw_model.specs.Case.{simulation}
 use Rattle.tw_model.specs.Effect.{suits}
-use Rattle.tw_shard.specs.Shard.{IsNext, Shard, core, handled_at, handling, may_handle, owns}
+use Rattle.tw_shard.specs.Shard.{HandlesNext, Shard, handled_at, handling, may_handle, owns, shard_core}
 use Rattle.tw_shard.proofs.Steps.{goes_on, is_stuck}
 use Rattle.tw_shard.proofs.shard.Shard.handle_first.Goals as goal
 
-next : (s : Shard) (e : Event) → owns s e.dst ≡ true → ((stop : ℕ) → first_pending (simulation s.case) (core stop s) e.dst ≡ Some e) → may_handle s e.dst e ≡ Ok tt
-    → suits s.case.net e.dst e ≡ true → (stop : ℕ) → e.time < stop → IsNext stop s e.dst e
+next : (s : Shard) (e : Event) → owns s e.dst ≡ true → ((stop : ℕ) → first_pending (simulation s.case) (shard_core stop s) e.dst ≡ Some e) → may_handle s e.dst e ≡ Ok tt
+    → suits s.case.net e.dst e ≡ true → (stop : ℕ) → e.time < stop → HandlesNext stop s e.dst e
 next s e own first free suit stop soon = record { own = own; first = first stop; soon = soon; free = free; suit = suit }
 
 pub returns-in-Err-clause-refused : goal.returns-in-Err-clause-refused
@@ -22,14 +22,14 @@ returns-in-Ok-clause-ok c = λ stop soon.
     let e = c.args.event.now in
     let is = next s e c.in_default.ensures.own c.requires.next c.in_default.ensures.free c.requires.suit stop soon in
     goes_on s e.dst c.may_handle_first.ensures.whole c.in_default.ensures.own stop e is (λ full. cc (c.in-Ok.ensures.full.1 full))
-    ∙ ap (λ s. Ok (core stop s)) (sym c.in-Ok.ensures.ok)
+    ∙ ap (λ s. Ok (shard_core stop s)) (sym c.in-Ok.ensures.ok)
 
 pub returns-in-Ok-clause-refused : goal.returns-in-Ok-clause-refused
 returns-in-Ok-clause-refused c = λ stop soon f.
     let s = c.args.self.now in
     let e = c.args.event.now in
     let is = next s e c.in_default.ensures.own c.requires.next c.in_default.ensures.free c.requires.suit stop soon in
-    let done : handling stop s e.dst ≡ Ok (core stop (handled_at s e.dst e)) =
+    let done : handling stop s e.dst ≡ Ok (shard_core stop (handled_at s e.dst e)) =
     goes_on s e.dst c.may_handle_first.ensures.whole c.in_default.ensures.own stop e is (λ full. cc (c.in-Ok.ensures.full.1 full)) in
     ((λ h. absurd (cc h)), (λ h. absurd (cc (done, h))))
 

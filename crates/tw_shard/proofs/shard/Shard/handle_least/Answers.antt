@@ -3,14 +3,14 @@ use Rattle.std.proofs.lemmas.Result.{err_from_is_err_and}
 use Rattle.tw_core.specs.Steps.{first_pending}
 use Rattle.tw_model.specs.declared.memory.OrMemory.TheVariants as or_memory
 use Rattle.tw_model.specs.Case.{simulation}
-use Rattle.tw_shard.specs.Shard.{Shard, core, handling, handling_least}
+use Rattle.tw_shard.specs.Shard.{Shard, handling, handling_least, shard_core}
 use Rattle.tw_shard.proofs.Leasts.{at_least}
 use Rattle.tw_shard.proofs.shard.Shard.handle_least.Goals as goal
 
 pub handle_first-requires-clause-next : goal.handle_first-requires-clause-next
 handle_first-requires-clause-next c = λ stop.
     let e = c.copy_least.new.event in
-    subst (λ (s : Shard). first_pending (simulation s.case) (core stop s) e.dst ≡ Some e) (sym (c.count_tick.ensures ∙ c.copy_least.ensures.same)) (c.if-not-copy_least.ensures.next stop)
+    subst (λ (s : Shard). first_pending (simulation s.case) (shard_core stop s) e.dst ≡ Some e) (sym (c.count_tick.ensures ∙ c.copy_least.ensures.same)) (c.if-not-copy_least.ensures.next stop)
 
 pub returns-clause-ok : goal.returns-clause-ok
 returns-clause-ok c = λ stop later.
@@ -25,7 +25,7 @@ returns-clause-refused c = λ f.
     let s = c.args.self.now in
     let e = c.copy_least.new.event in
     let early = c.if-not-copy_least.ensures.before in
-    let done : handling_least c.args.limit s ≡ Ok (core c.args.limit c.handle_first.new.self) =
+    let done : handling_least c.args.limit s ≡ Ok (shard_core c.args.limit c.handle_first.new.self) =
     at_least c.args.limit s e c.if-not-copy_least.ensures.least early
     ∙ (ap (λ (t : Shard). handling c.args.limit t e.dst) (sym (c.count_tick.ensures ∙ c.copy_least.ensures.same)) ∙ c.in_ok-handle_first.ensures.ok c.args.limit early) in
     ((λ h. absurd (cc h)), (λ h. absurd (cc (done, h))))

@@ -1,5 +1,5 @@
 use Rattle.std.proofs.Common.{ap, sym, ◌∙◌, subst, refl}
-use Rattle.tw_shard.specs.Shard.{IsSameShare, core}
+use Rattle.tw_shard.specs.Shard.{IsSameShare, shard_core}
 use Rattle.tw_shard.proofs.RollBack.{fewer_left, rolled_so_far, rolling_done, rolling_more, rolling_none}
 use Rattle.tw_shard.proofs.shard.Shard.roll_back.Goals as goal
 
@@ -34,7 +34,7 @@ returns-in_err-step_back-clause-same c =
 
 pub returns-clause-ok : goal.returns-clause-ok
 returns-clause-ok c = λ stop.
-    ap (core stop) c.count_rollback.ensures
+    ap (shard_core stop) c.count_rollback.ensures
     ∙ rolling_done c.args.reach c.args.event.now c.args.self.now c.loop-reach.self c.must_undo.ensures.whole c.loop-reach.invariant c.requires.own c.requires.late
     (sym c.must_undo.ensures.value ∙ c.loop-reach-test.false) c.must_undo.ensures.past stop
 

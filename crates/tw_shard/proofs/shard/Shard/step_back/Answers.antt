@@ -40,12 +40,12 @@ invariant_of-self-3 c =
           ∙ (undone.2 ∙ λ i. set (c.deref_mut.ensures.value i) (at i) (record (there i) { ahead = undone.0 }));
       kept = refl;
       bound = refl;
-      keeps = refl;
+      retains = refl;
       cancel = refl;
       pending_routers = c.insert.ensures.routers ∙ c.reserve.ensures.routers;
       kept_routers = refl;
       held_routers = c.in_ok-event.ensures.routers;
-    }) own.net own.node own.done own.case own.keeps
+    }) own.net own.node own.done own.case own.retains
     (subst (AllByRecursion (λ x. suits s.case.net x.dst x ≡ true)) (sym pending)
     (all-insert event_before (λ x. suits s.case.net x.dst x ≡ true) e a.pending.events suit c.self.invariant.whole.pending))
     (subst (IsRising event_before event_same) (sym undone.4)
@@ -91,7 +91,7 @@ returns-clause-ok c =
       ticks = a.ticks;
       tally = c.count_undone.new.self;
       bound = a.bound;
-      keeps = a.keeps;
+      retains = a.retains;
       cancel = a.cancel;
     }))) c.self.view_is (
       e,
@@ -109,7 +109,7 @@ returns-clause-ok c =
         outgoing = outgoing i;
         held = held i;
         bound = a.bound;
-        keeps = a.keeps;
+        retains = a.retains;
         cancel = a.cancel;
       },
     )

@@ -37,12 +37,12 @@ invariant_of-self-2 c =
           ∙ (c.in_ok-handle_at.ensures.ok ∙ λ i. set (c.deref_mut.ensures.value i) (at i) (record (there i) { ahead = e ∷ (there i).ahead }));
       kept = refl;
       bound = refl;
-      keeps = refl;
+      retains = refl;
       cancel = refl;
       pending_routers = c.skip_least.ensures.routers;
       kept_routers = refl;
       held_routers = c.in_ok-handle_at.ensures.routers;
-    }) own.net own.node own.done own.case own.keeps
+    }) own.net own.node own.done own.case own.retains
     (subst (AllByRecursion (λ x. suits s.case.net x.dst x ≡ true)) (sym without)
     (suit_without s.case.net e a.pending.events c.self.invariant.whole.pending))
     (subst (IsRising event_before event_same) (sym c.in_ok-handle_at.ensures.held)
@@ -81,7 +81,7 @@ returns-clause-ok c =
       outgoing = outgoing i;
       held = held i;
       bound = a.bound;
-      keeps = a.keeps;
+      retains = a.retains;
       cancel = a.cancel;
     })
     ∙ ap (λ s. handled_at s r e) c.self.view_is

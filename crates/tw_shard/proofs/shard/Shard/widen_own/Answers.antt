@@ -23,9 +23,9 @@ invariant_of-self-2 c =
           ∙ (c.in_ok-widen_at.ensures.ok ∙ λ i. set (c.deref_mut.ensures.value i) (at i) (record (there i) { room = 2 * (there i).room }));
       kept = refl;
       bound = refl;
-      keeps = refl;
+      retains = refl;
       cancel = refl;
       pending_routers = refl;
       kept_routers = refl;
       held_routers = refl;
-    }) own.net own.node own.done own.case own.keeps c.self.invariant.whole.pending c.self.invariant.whole.held (omega arith) (c.self.invariant.latest r mine)
+    }) own.net own.node own.done own.case own.retains c.self.invariant.whole.pending c.self.invariant.whole.held (omega arith) (c.self.invariant.latest r mine)

@@ -1,5 +1,5 @@
 use Rattle.std.proofs.Common.{◌<◌, map, refl, subst, ap, ◌∙◌}
-use Rattle.tw_shard.specs.Roster.{Stands}
+use Rattle.tw_shard.specs.Roster.{StandsInList}
 use Rattle.tw_shard.specs.Shard.{Shard}
 use Rattle.tw_shard.specs.Timeline.{opening_timeline}
 use Rattle.tw_shard.proofs.Openings.{IsBegun, latest_begun, opening, whole_begun}
@@ -10,7 +10,7 @@ pub opening_timelines-requires : goal.opening_timelines-requires
 opening_timelines-requires c =
     let rs = c.routers.ensures.value in
     all_standing (λ r. r < c.args.case.now.net.nodes) c.routers.result.now
-    (λ k r at. subst (λ n. r < n) c.requires.count (c.routers.ensures.roster.known k r (subst (λ rs. Stands rs k r) rs at)))
+    (λ k r at. subst (λ n. r < n) c.requires.count (c.routers.ensures.roster.known k r (subst (λ rs. StandsInList rs k r) rs at)))
 
 abbrev shard_of : goal.After-default → Shard
 shard_of c = record {
@@ -24,7 +24,7 @@ shard_of c = record {
   outgoing = c.new-2.result.items;
   held = c.new-3.result.events;
   bound = 0;
-  keeps = c.args.keeps;
+  retains = c.args.retains;
   cancel = c.args.cancel;
 }
 
@@ -34,7 +34,7 @@ is_begun c = record {
   worker = c.requires.worker;
   known = λ k r at. subst (λ n. r < n) c.requires.count (c.routers.ensures.roster.known k r at);
   apart = c.routers.ensures.roster.apart;
-  timelines = c.in_ok-timelines.ensures ∙ ap (λ rs. map (opening_timeline c.args.case.now c.args.keeps) rs) c.routers.ensures.value;
+  timelines = c.in_ok-timelines.ensures ∙ ap (λ rs. map (opening_timeline c.args.case.now c.args.retains) rs) c.routers.ensures.value;
   pending = c.in_ok-pending.ensures.events;
   kept = c.in_ok-kept.ensures.empty;
   outgoing = c.new-2.ensures.items;

@@ -17,7 +17,7 @@ add-requires c = λ lets_go.
     let n = c.first_before-count.result in
     let first = c.first_before-count.ensures.value in
     let later : a.past.done ≤ bound = subst (λ (t : Timeline). t.done ≤ bound) (sym c.self.view_is) c.requires.done in
-    let run : IsRunUntil bound (timeline_of a) = subst (IsRunUntil bound) (sym c.self.view_is) (c.requires.run (ap (λ (t : Timeline). t.keeps) (sym c.self.view_is) ∙ lets_go)) in
+    let run : IsRunUntil bound (timeline_of a) = subst (IsRunUntil bound) (sym c.self.view_is) (c.requires.run (ap (λ (t : Timeline). t.retains) (sym c.self.view_is) ∙ lets_go)) in
     ap (λ steps. events_of (reverse steps) ++ a.past.events) c.first.ensures
     ∙ (sym (all_committed a.past.case c.self.invariant.is_case bound a.past.done n a.past.events a.ahead later first c.self.invariant.past run.falling)
     ∙ (run.run ∙ ap (λ v. own_run a.past.case v bound) (sym c.self.invariant.node)))
@@ -78,7 +78,7 @@ returns-clause-ok c =
     let past = past_now c in
     let left = ap (λ l. events_of (reverse l)) c.drop_first.ensures ∙ sym (left_events bound n items (first_now c)) in
     let gone = ap (λ (p : Past). p.events) past ∙ ap (λ l. l ++ a.past.events) (sym (gone_events bound n items (first_now c))) in
-    (λ i. record { net = a.router.net; node = a.router.node; ahead = left i; past = gone i; done = (past i).done; room = a.room; case = (past i).case; keeps = (past i).keeps })
+    (λ i. record { net = a.router.net; node = a.router.node; ahead = left i; past = gone i; done = (past i).done; room = a.room; case = (past i).case; retains = (past i).retains })
     ∙ ap (committed_to bound) c.self.view_is
 
 pub returns-clause-past : goal.returns-clause-past

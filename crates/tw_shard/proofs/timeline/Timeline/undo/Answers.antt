@@ -102,7 +102,7 @@ returns-clause-ok c =
         done = a.past.done;
         room = a.room;
         case = a.past.case;
-        keeps = a.past.keeps;
+        retains = a.past.retains;
       })
           ∙ ap (λ (t : Timeline). record t { ahead = left }) c.self.view_is,
       c.call_back.ensures.outgoing a.past.case

@@ -5,7 +5,7 @@ use Rattle.tw_table.proofs.Deals.{long_map}
 use Rattle.tw_table.proofs.Joins.{closed, closed_bound, closed_halted, closed_stop, met_stop}
 use Rattle.tw_exchange.specs.Board.{Board}
 use Rattle.tw_table.specs.Seats.{bound_at, halted_at, share_at, stop_at}
-use Rattle.tw_table.specs.Shares.{IsWhole}
+use Rattle.tw_table.specs.Shares.{AreGoodTogether}
 use Rattle.tw_table.proofs.table.Table.close.Goals as goal
 
 pub returns-clause-whole : goal.returns-clause-whole
@@ -15,7 +15,7 @@ returns-clause-whole g c =
     let seats = c.args.seats in
     let as_many : length (map share_at seats.items) ≡ c.args.table.workers
     = (let all : length seats.items ≡ vec_len seats = search rules in let long = long_map share_at seats.items in let same : vec_len seats ≡ c.args.table.workers = search rules in omega arith) in
-    subst (λ x. IsWhole x (map share_at seats.items)) (sym (c.into_inner.ensures ∙ c.exchange.view_is))
+    subst (λ x. AreGoodTogether x (map share_at seats.items)) (sym (c.into_inner.ensures ∙ c.exchange.view_is))
     (closed c.pop.result (view pass.result) (map share_at seats.items) c.args.table.workers pass.ensures.shares pass.ensures.workers as_many c.args.table.some told.met told.knows)
 
 pub returns-clause-stop : goal.returns-clause-stop

@@ -1,6 +1,6 @@
 use Rattle.std.proofs.Common.{ap, sym, ◌∙◌, subst}
-use Rattle.tw_shard.specs.Shards.{HaveAll, KeepAll, committed_of_all}
-use Rattle.tw_warp.proofs.AllShards.{have_all, keep_all, same_committed}
+use Rattle.tw_shard.specs.Shards.{HaveAll, RetainAll, committed_of_all}
+use Rattle.tw_warp.proofs.AllShards.{have_all, retain_all, same_committed}
 use Rattle.tw_warp.proofs.Together.{are_run}
 use Rattle.tw_warp.specs.Committed.{committed_events}
 use Rattle.tw_warp.specs.Inside.{warp_of}
@@ -12,7 +12,7 @@ committed_events-requires c =
     let w = warp_of c.self.inside in
     record {
       all = subst (HaveAll w.case) (sym c.deref.ensures.value) (have_all w c.self.invariant);
-      kept = subst (KeepAll w.case) (sym c.deref.ensures.value) (keep_all w c.self.invariant);
+      retained = subst (RetainAll w.case) (sym c.deref.ensures.value) (retain_all w c.self.invariant);
     }
 
 pub returns-clause-value : goal.returns-clause-value

@@ -5,7 +5,7 @@ use Rattle.tw_shard.specs.Shard.{Shard}
 use Rattle.tw_shard.specs.Shards.{HaveAll, history_in}
 use Rattle.tw_warp.proofs.AllShards.{have_all, histories}
 use Rattle.tw_warp.specs.Inside.{warp_of}
-use Rattle.tw_warp.specs.Warp.{Warp, core}
+use Rattle.tw_warp.specs.Warp.{Warp, warp_core}
 use Rattle.tw_warp.proofs.warp.Warp.router.Goals as goal
 
 pub shard_for-requires : goal.shard_for-requires
@@ -25,4 +25,4 @@ returns c =
     (subst (λ (v : Warp). c.args.router < v.case.net.nodes) (sym c.self.view_is) c.requires) c.shard_for.result.now c.shard_for.ensures
     ∙ (ap (λ (ss : List Shard). told w.case c.args.router (history_in ss c.args.router)) c.deref.ensures.value
     ∙ (ap (λ (h : ℕ → List Event). told w.case c.args.router (h c.args.router)) (histories w c.self.invariant)
-    ∙ ap (λ (v : Warp). told v.case c.args.router ((core v).history c.args.router)) c.self.view_is)))
+    ∙ ap (λ (v : Warp). told v.case c.args.router ((warp_core v).history c.args.router)) c.self.view_is)))

@@ -3,22 +3,22 @@ use Rattle.std.specs.Prelude.{vec_capacity, vec_len}
 use Rattle.tw_model.specs.declared.memory.OrMemory.TheVariants as or_memory
 use Rattle.tw_core.specs.Run.{IsSeq}
 use Rattle.tw_model.specs.Case.{simulation}
-use Rattle.tw_warp.specs.Warp.{Warp, core}
+use Rattle.tw_warp.specs.Warp.{Warp, warp_core}
 use Rattle.tw_warp.proofs.Runs.{IsRun, one_cut, one_done, one_refused, run_none, same_machine}
 use Rattle.tw_warp.proofs.Turns.{seq_of}
 use Rattle.tw_warp.proofs.warp.Warp.run.Goals as goal
 use Rattle.tw_warp.proofs.warp.Warp.run.Goals.{in-Ok-step, in-Err-Fault}
 
 pub returns-in_default-clause-seq : goal.returns-in_default-clause-seq
-returns-in_default-clause-seq c = subst (λ (v : Warp). IsSeq (simulation v.case) (core v)) c.self.view_is (seq_of _ c.self.invariant)
+returns-in_default-clause-seq c = subst (λ (v : Warp). IsSeq (simulation v.case) (warp_core v)) c.self.view_is (seq_of _ c.self.invariant)
 
 pub loop-step-init : goal.loop-step-init
 loop-step-init c = record {
-  far = subst (IsRun (simulation c.args.self.now.case) c.args.steps.now 0 (core c.args.self.now) (core c.args.self.now)) (sym (c.reserve.ensures.items ∙ c.new-answers.ensures.items))
-      (run_none (simulation c.args.self.now.case) c.args.steps.now (core c.args.self.now));
+  far = subst (IsRun (simulation c.args.self.now.case) c.args.steps.now 0 (warp_core c.args.self.now) (warp_core c.args.self.now)) (sym (c.reserve.ensures.items ∙ c.new-answers.ensures.items))
+      (run_none (simulation c.args.self.now.case) c.args.steps.now (warp_core c.args.self.now));
   same = record { case = refl; workers = refl; stop = refl; cancel = refl };
   rising = omega arith;
-  seq = subst (λ (v : Warp). IsSeq (simulation v.case) (core v)) c.self.view_is (seq_of _ c.self.invariant);
+  seq = subst (λ (v : Warp). IsSeq (simulation v.case) (warp_core v)) c.self.view_is (seq_of _ c.self.invariant);
   count = c.reserve.ensures.len ∙ c.new-answers.ensures.len;
   room = (let more = c.in-Ok.ensures.ok in let len = c.reserve.ensures.len in omega arith);
 }
@@ -36,7 +36,7 @@ pub loop-step-preserved : goal.loop-step-preserved
 loop-step-preserved c =
     let n = c.loop-step.step-index in
     let inv = c.loop-step.invariant in
-    let far = IsRun (simulation c.args.self.now.case) c.args.steps.now (n + 1) (core c.args.self.now) (core c.step.new.self) in
+    let far = IsRun (simulation c.args.self.now.case) c.args.steps.now (n + 1) (warp_core c.args.self.now) (warp_core c.step.new.self) in
     let before = inv.count in
     let all = inv.room in
     let risen = inv.rising in

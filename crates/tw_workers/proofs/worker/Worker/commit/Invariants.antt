@@ -3,7 +3,7 @@ use Rattle.tw_model.specs.declared.limits.TheConstants.{LATEST}
 use Rattle.tw_shard.specs.Shard.{routers}
 use Rattle.tw_table.specs.Shares.{share}
 use Rattle.tw_workers.proofs.Commits.{AreDone}
-use Rattle.tw_workers.specs.Work.{IsAtWork, StillKeeps}
+use Rattle.tw_workers.specs.Work.{IsAtWork, StillPreserves}
 use Rattle.tw_workers.proofs.worker.Worker.commit.Given as goal
 
 -- the routers that are not left have committed
@@ -11,7 +11,7 @@ abbrev pub invariant-loop-place : goal.invariant-loop-place
 invariant-loop-place l =
     let s = share l.self-inside.shard l.self-inside.hand in record {
       work : IsAtWork l.self-inside.stop s;
-      kept : StillKeeps l.fn.self (record { share = s; stop = l.self-inside.stop; batch = l.self-inside.pace.batch });
+      kept : StillPreserves l.fn.self (record { share = s; stop = l.self-inside.stop; batch = l.self-inside.pace.batch });
       same : routers s.shard ≡ routers l.fn.self.share.shard;
       done : AreDone (drop l.place (routers s.shard)) s.shard;
       mail : s.mail ≡ l.fn.self.share.mail;

@@ -3,7 +3,7 @@ use Rattle.tw_shard.specs.Shard.{owns}
 use Rattle.tw_table.specs.Shares.{share}
 use Rattle.tw_workers.proofs.Commits.{has_run, kept_committed}
 use Rattle.tw_workers.proofs.Places.{kept_both, work_kept}
-use Rattle.tw_workers.specs.Work.{IsAtWork, Kept, Worker}
+use Rattle.tw_workers.specs.Work.{IsAtWork, PreservesShare, Worker}
 use Rattle.tw_workers.proofs.worker.Worker.commit_router.Goals as goal
 
 pub commit_at-requires : goal.commit_at-requires
@@ -29,10 +29,10 @@ invariant_of-self-2 c =
     let kept = kept_committed inside.stop c.args.router s c.commit_at.new.shard c.self.invariant.work c.commit_at.ensures.same (c.in_ok-commit_at.ensures.ok inside.stop) in
     record { work = work_kept inside.stop s t c.self.invariant.work kept; stop = c.self.invariant.stop; none = c.self.invariant.none }
 
-pub returns-clause-kept : goal.returns-clause-kept
-returns-clause-kept c = λ since before.
+pub returns-clause-preserved : goal.returns-clause-preserved
+returns-clause-preserved c = λ since before.
     let inside = c.self.inside in
     let s = share inside.shard inside.hand in
     let t = share c.commit_at.new.shard inside.hand in
     let kept = kept_committed inside.stop c.args.router s c.commit_at.new.shard c.self.invariant.work c.commit_at.ensures.same (c.in_ok-commit_at.ensures.ok inside.stop) in
-    kept_both inside.stop since s t (subst (λ (w : Worker). Kept w.stop since w.share) (sym c.self.view_is) before) kept
+    kept_both inside.stop since s t (subst (λ (w : Worker). PreservesShare w.stop since w.share) (sym c.self.view_is) before) kept

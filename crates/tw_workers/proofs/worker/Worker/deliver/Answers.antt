@@ -8,23 +8,23 @@ invariant_of-self c =
     let inside = c.loop.self-inside in
     let is = c.loop.invariant in
     record {
-      work = work_kept inside.stop (share inside.shard inside.hand) (share c.receive_next.new.shard c.receive_next.new.hand) is.3 (c.receive_next.ensures.kept inside.stop is.3);
+      work = work_kept inside.stop (share inside.shard inside.hand) (share c.receive_next.new.shard c.receive_next.new.hand) is.3 (c.receive_next.ensures.preserved inside.stop is.3);
       stop = is.6;
       none = is.7;
     }
 
-pub returns-in_err-receive_next-clause-kept : goal.returns-in_err-receive_next-clause-kept
-returns-in_err-receive_next-clause-kept c = λ s kept.
+pub returns-in_err-receive_next-clause-preserved : goal.returns-in_err-receive_next-clause-preserved
+returns-in_err-receive_next-clause-preserved c = λ s kept.
     let inside = c.loop.self-inside in
     let is = c.loop.invariant in
-    kept_both inside.stop s (share inside.shard inside.hand) (share c.receive_next.new.shard c.receive_next.new.hand) (is.4 s kept) (c.receive_next.ensures.kept inside.stop is.3)
+    kept_both inside.stop s (share inside.shard inside.hand) (share c.receive_next.new.shard c.receive_next.new.hand) (is.4 s kept) (c.receive_next.ensures.preserved inside.stop is.3)
 
 pub loop-preserved : goal.loop-preserved
 loop-preserved c =
     let inside = c.loop.self-inside in
     let is = c.loop.invariant in
     let t = share c.receive_next.new.shard c.receive_next.new.hand in
-    let step = c.receive_next.ensures.kept inside.stop is.3 in (
+    let step = c.receive_next.ensures.preserved inside.stop is.3 in (
       search rules,
       search rules,
       search rules,

@@ -3,7 +3,7 @@ use Rattle.tw_exchange.specs.Board.{Board}
 use Rattle.tw_table.specs.Seats.{exchange_of, share_at, share_of, taken_by}
 use Rattle.tw_table.specs.Shares.{MayBeGiven, Share, board_of, share}
 use Rattle.tw_workers.proofs.Visits.{stayed_given}
-use Rattle.tw_workers.specs.Work.{Kept, Worker}
+use Rattle.tw_workers.specs.Work.{PreservesShare, Worker}
 use Rattle.tw_workers.proofs.worker.Worker.leave.Goals as goal
 
 pub give-requires-clause-held : goal.give-requires-clause-held
@@ -16,7 +16,7 @@ give-requires-clause-fair g c =
     let told = c.take-taken.ensures in
     let inside = c.self.inside in
     let t = share inside.shard inside.hand in
-    let kept = subst (λ (w : Worker). Kept w.stop (share_at seat) w.share) (sym c.self.view_is) c.requires.kept in
+    let kept = subst (λ (w : Worker). PreservesShare w.stop (share_at seat) w.share) (sym c.self.view_is) c.requires.preserved in
     let stop = told.stop ∙ (c.requires.stop ∙ ap (λ (w : Worker). w.stop) (sym c.self.view_is)) in
     let board : board_of (exchange_of c.halt_all.new.held) ≡ board_of (taken_by held) = c.halt_all.ensures.board ∙ ap board_of told.exchange in
     let may = stayed_given (taken_by held) (exchange_of c.halt_all.new.held) inside.stop (share_at seat) t told.met stop kept board in

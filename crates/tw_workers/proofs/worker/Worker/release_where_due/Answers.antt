@@ -39,13 +39,13 @@ loop-place-preserved c =
           (next_left (routers s) k r next_at) is.awaited
           (subst (λ until. AreAwaitedFrom r until t) done.stop told.awaited)
           (λ q was. subst (λ until. AreAwaitedFrom q until t) done.stop (told.others q was))));
-      kept = λ s kept. done.kept s (is.kept s kept);
+      kept = λ s kept. done.preserved s (is.kept s kept);
       mail = done.mail ∙ is.mail;
       stop = done.stop ∙ is.stop;
     }
 
-pub returns-in_err-release_if_due-clause-kept : goal.returns-in_err-release_if_due-clause-kept
-returns-in_err-release_if_due-clause-kept c = λ s kept. c.release_if_due.ensures.kept s (c.loop-place.invariant.kept s kept)
+pub returns-in_err-release_if_due-clause-preserved : goal.returns-in_err-release_if_due-clause-preserved
+returns-in_err-release_if_due-clause-preserved c = λ s kept. c.release_if_due.ensures.preserved s (c.loop-place.invariant.kept s kept)
 
 pub returns-clause-awaited : goal.returns-clause-awaited
 returns-clause-awaited c =

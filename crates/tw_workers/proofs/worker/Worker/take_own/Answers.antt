@@ -4,11 +4,11 @@ use Rattle.tw_shard.specs.Shard.{owns}
 use Rattle.tw_table.specs.Shares.{Share, share}
 use Rattle.tw_workers.proofs.Moves.{kept_taken}
 use Rattle.tw_workers.proofs.Places.{drop_none, kept_both, work_kept}
-use Rattle.tw_workers.specs.Work.{Kept, Worker}
+use Rattle.tw_workers.specs.Work.{PreservesShare, Worker}
 use Rattle.tw_workers.proofs.worker.Worker.take_own.Goals as goal
 
 -- what the call keeps of its share
-taken : (c : goal.After-swap_outgoing) → Kept c.self.inside.stop (share c.self.inside.shard c.self.inside.hand) (share c.swap_outgoing.new.self (record c.self.inside.hand { mail = c.swap_outgoing.new.messages; next = 0 }))
+taken : (c : goal.After-swap_outgoing) → PreservesShare c.self.inside.stop (share c.self.inside.shard c.self.inside.hand) (share c.swap_outgoing.new.self (record c.self.inside.hand { mail = c.swap_outgoing.new.messages; next = 0 }))
 taken c =
     let inside = c.self.inside in
     let s = share inside.shard inside.hand in
@@ -19,7 +19,7 @@ taken c =
     let mail : drop 0 c.swap_outgoing.new.messages.items ≡ s.shard.outgoing = drop_none c.swap_outgoing.new.messages.items ∙ c.swap_outgoing.ensures.taken in
     let same : share c.swap_outgoing.new.self (record inside.hand { mail = c.swap_outgoing.new.messages; next = 0 }) ≡ made
     = λ i. record { shard = shard i; mail = mail i; unsent = s.unsent } in
-    subst (Kept inside.stop s) (sym same) (kept_taken inside.stop s c.self.invariant.work none own)
+    subst (PreservesShare inside.stop s) (sym same) (kept_taken inside.stop s c.self.invariant.work none own)
 
 pub invariant_of-self : goal.invariant_of-self
 invariant_of-self c =
@@ -30,8 +30,8 @@ invariant_of-self c =
       none = c.self.invariant.none;
     }
 
-pub returns-clause-kept : goal.returns-clause-kept
-returns-clause-kept c = λ since before.
+pub returns-clause-preserved : goal.returns-clause-preserved
+returns-clause-preserved c = λ since before.
     let inside = c.self.inside in
     kept_both inside.stop since (share inside.shard inside.hand) (share c.swap_outgoing.new.self (record inside.hand { mail = c.swap_outgoing.new.messages; next = 0 }))
-    (subst (λ (w : Worker). Kept w.stop since w.share) (sym c.self.view_is) before) (taken c)
+    (subst (λ (w : Worker). PreservesShare w.stop since w.share) (sym c.self.view_is) before) (taken c)

@@ -25,7 +25,7 @@ invariant_of-result c =
       known = λ k r at. subst (λ n. r < n) count (c.routers-count.ensures.roster.known k r at);
       apart = c.routers-count.ensures.roster.apart;
       roster = count;
-      timelines = c.in_ok-timelines.ensures.items ∙ ap (λ n. map (timeline_at case c.args.keeps c.args.time) (take n rs)) (sym none);
+      timelines = c.in_ok-timelines.ensures.items ∙ ap (λ n. map (timeline_at case c.args.retains c.args.time) (take n rs)) (sym none);
       rings = let rings = c.in_ok-rings.ensures.count in omega arith;
       empty = c.in_ok-rings.ensures.empty;
       room = let room = c.in_ok-timelines.ensures.capacity in omega arith;
@@ -48,7 +48,7 @@ returns c =
       worker = c.args.worker;
       workers = c.args.workers;
       time = c.args.time;
-      keeps = c.args.keeps;
+      retains = c.args.retains;
       cancel = c.args.cancel;
       routers = own i;
       missing = missing i;

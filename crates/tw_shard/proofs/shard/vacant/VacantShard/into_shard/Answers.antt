@@ -18,7 +18,7 @@ shard_now c = record {
   outgoing = c.new.result.items;
   held = c.new-2.result.events;
   bound = c.self.inside.time;
-  keeps = c.self.inside.keeps;
+  retains = c.self.inside.retains;
   cancel = c.self.inside.cancel;
 }
 
@@ -32,7 +32,7 @@ is_at c =
       worker = is.worker;
       known = is.known;
       apart = is.apart;
-      timelines = is.timelines ∙ ap (map (timeline_at a.case.now a.keeps a.time)) (all_come (length a.timelines.items) a.roster.routers none);
+      timelines = is.timelines ∙ ap (map (timeline_at a.case.now a.retains a.time)) (all_come (length a.timelines.items) a.roster.routers none);
       pending = is.pending;
       kept = is.kept;
       outgoing = c.new.ensures.items;
@@ -54,5 +54,5 @@ invariant_of-result c =
 
 pub returns-clause-at : goal.returns-clause-at
 returns-clause-at c =
-    subst (λ (v : Vacant). (who : ℕ → ℕ) → v.routers ≡ filter (λ r. who r == v.worker) (range_with_len 0 v.case.net.nodes) → IsShardAt v.case who v.time v.worker v.keeps v.cancel (shard_now c))
+    subst (λ (v : Vacant). (who : ℕ → ℕ) → v.routers ≡ filter (λ r. who r == v.worker) (range_with_len 0 v.case.net.nodes) → IsShardAt v.case who v.time v.worker v.retains v.cancel (shard_now c))
     c.self.view_is (shard_at c.self.inside.time (shard_now c) (is_at c))

@@ -11,14 +11,14 @@ use Rattle.tw_shard.proofs.shard.vacant.VacantShard.take_in.Goals as goal
 next : (c : goal.After-push_reserved) → slice_get (vacant_of c.self.inside).missing 0 ≡ Some c.args.router.router.node
 next c = ap (λ (v : Vacant). slice_get v.missing 0) c.self.view_is ∙ c.requires.next
 
-come : (c : goal.After-push_reserved) → c.at-timeline.result ≡ timeline_at c.self.inside.case.now c.self.inside.keeps c.self.inside.time c.args.router.router.node
+come : (c : goal.After-push_reserved) → c.at-timeline.result ≡ timeline_at c.self.inside.case.now c.self.inside.retains c.self.inside.time c.args.router.router.node
 come c = c.at-timeline.ensures
 
 pub invariant_of-self : goal.invariant_of-self
 invariant_of-self c =
     let a = c.self.inside in
     let is = c.self.invariant in
-    let line = timeline_at a.case.now a.keeps a.time in
+    let line = timeline_at a.case.now a.retains a.time in
     let ts = a.timelines.items in
     let later = c.push_reserved.new.self.items in
     let t = c.at-timeline.result in
@@ -49,7 +49,7 @@ pub returns : goal.returns
 returns c =
     let a = c.self.inside in
     let is = c.self.invariant in
-    let line = timeline_at a.case.now a.keeps a.time in
+    let line = timeline_at a.case.now a.retains a.time in
     let less = one_less line a.roster.routers a.timelines.items c.push_reserved.new.self.items c.at-timeline.result c.args.router.router.node is.timelines (next c) (come c)
     c.push_reserved.ensures.items in
     ap (λ rs. record (vacant_of a) { missing = rs }) less ∙ ap (λ (v : Vacant). record v { missing = drop 1 v.missing }) c.self.view_is

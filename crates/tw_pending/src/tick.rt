@@ -1,0 +1,81 @@
+//! The events of the tick at hand, put in order once.
+
+ghost use Rattle.std.specs.Prelude.{◌≡◌, ◌<◌, [], drop, length, slice_get};
+ghost use Rattle.std.specs.Bool.{OnFalse, OnTrue};
+ghost use Rattle.tw_pending.specs.Order.{IsInOrder, in_order};
+
+use std::alloc::Global;
+use std::marker::Model;
+use std::mem::swap;
+use tw_process::Timed;
+
+/// Events in rising order, which are taken out from the front.
+#[derive(Drop)]
+pub(crate) struct Tick<E: Timed> {
+    events: Vec<E>,
+    /// How many of them are taken out.
+    taken: usize,
+}
+
+impl<E: Timed> Model for Tick<E> {
+    ghost use Rattle.std.specs.Prelude.{List, drop};
+    ghost use Rattle.tw_pending.specs.Order.{IsInOrder};
+
+    ghost Value = { List E };
+
+    ghost view = { λ a. drop a.taken a.events.items };
+
+    ghost invariant = { λ a. IsInOrder E.cmp (drop a.taken a.events.items) };
+}
+
+impl<E: Timed> Tick<E> {
+    /// No events.
+    pub(crate) fn new(alloc: Global) -> Tick<E>
+        ensures { result ≡ [] }
+    {
+        Tick {
+            events: Vec::new(alloc),
+            taken: 0,
+        }
+    }
+
+    /// The first event, where there is one.
+    #[inline(always)]
+    pub(crate) fn first(&self) -> Option<E>
+        ensures first { result ≡ slice_get self.now 0 }
+        ensures order { IsInOrder E.cmp self.now }
+    {
+        let event = self.events.get(self.taken)?;
+        Some(*event)
+    }
+
+    /// Whether no event is left.
+    #[inline(always)]
+    pub(crate) fn is_over(&self) -> bool
+        ensures yes { OnTrue result (self.now ≡ []) }
+        ensures no { OnFalse result (0 < length self.now) }
+    {
+        self.taken >= self.events.len()
+    }
+
+    /// Takes out the first event, where there is one.
+    #[inline(always)]
+    pub(crate) fn skip(&mut self)
+        ensures { self.new ≡ drop 1 self.old }
+    {
+        if self.taken < self.events.len() {
+            self.taken += 1;
+        }
+    }
+
+    /// Takes the events of a list in the place of its own, and puts them in order.
+    pub(crate) fn take_over(&mut self, events: &mut Vec<E>)
+        ensures events { self.new ≡ in_order E.cmp events.old.items }
+        ensures empty { events.new.items ≡ [] }
+    {
+        self.events.clear();
+        self.taken = 0;
+        swap(&mut self.events, events);
+        self.events.sort_unstable();
+    }
+}
