@@ -9,6 +9,7 @@ use tw_instance::Case;
 use tw_model::{Counters, Outcome, RouterEnd};
 use tw_parallel::{NotSettled, OrMemory, Sim, StopLower};
 use tw_rows::cases::case;
+use tw_rows::events::START;
 use tw_rows::made::{again, again_for_memory, holds_of_made};
 use tw_rows::texts::DISAGREE;
 
@@ -50,7 +51,7 @@ fn begins_so(outcome: &Outcome) -> bool {
     outcome.stop == 0
         && outcome.events.is_empty()
         && outcome.routers.as_slice() == &[untouched, untouched, untouched][..]
-        && outcome.pending.as_slice() == &[Event::default()][..]
+        && outcome.pending.as_slice() == &[START][..]
 }
 
 /// Whether a run refuses to tell what it leaves, or its shape.

@@ -16,6 +16,7 @@ use tw_instance::{Case, Instance};
 use tw_model::{Counters, Outcome, RouterEnd};
 use tw_report::write_report;
 use tw_rows::cases::case;
+use tw_rows::events::START;
 use tw_rows::made::again;
 use tw_rows::texts::{ALONE, DISAGREE};
 use tw_seq::{LoggedRun, OneThread, Running};
@@ -172,7 +173,7 @@ fn alone(alloc: Global) -> Result<Outcome, AllocError>
     Ok(Outcome {
         stop: 10,
         bound: 10,
-        events: Vec::from_slice(alloc, &[Event::default()])?,
+        events: Vec::from_slice(alloc, &[START])?,
         routers: Vec::from_slice(alloc, &[origin])?,
         pending: Vec::new(alloc),
         last_change: 0,

@@ -1,10 +1,10 @@
 //! Instances and cases by calls, from items in place of a text.
 
-use crate::made::again;
+use crate::events::START;
 use crate::readings::is_written_as;
 use crate::texts::{DISAGREE, FORBIDDEN_PATH};
 use std::alloc::{AllocError, Global};
-use tw_event::{Event, PathNo};
+use tw_event::PathNo;
 use tw_instance::{At, Case, Instance, Item, Link, OrMemory, PermittedPath, Rule, Scene};
 
 /// The permitted paths of DISAGREE.
@@ -65,21 +65,32 @@ fn built(
     Case::build(alloc, version, instance, scenes).map_err(OrMemory::Fault)
 }
 
-/// The same, built once more where it was refused.
+/// The same, built once more where memory was refused.
 fn build(
     alloc: Global,
     version: u32,
     links: &[Ends],
     scenes: &[Scene],
 ) -> Result<Case, OrMemory<At>> {
-    again(|| built(alloc, version, links, scenes))
+    match built(alloc, version, links, scenes) {
+        Err(OrMemory::Memory) => built(alloc, version, links, scenes),
+        Err(
+            OrMemory::Fault(
+                At {
+                    fault: OrMemory::Memory,
+                    ..
+                },
+            ),
+        ) => built(alloc, version, links, scenes),
+        answer => answer,
+    }
 }
 
 /// Whether DISAGREE is written as its text, and begins with the origin's start alone.
 fn is_that_of_the_text(alloc: Global, case: &Case) -> bool {
     case.version() == 1
         && is_written_as(alloc, case, DISAGREE)
-        && case.opening(0) == Some(Event::default())
+        && case.opening(0) == Some(START)
         && case.opening(1) == None
 }
 
