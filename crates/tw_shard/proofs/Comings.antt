@@ -26,14 +26,14 @@ none_found : (n : ℕ) → (0 < n → ⊥) → nat_lt 0 n ≡ false
 none_found n none = false_from_ne_true (nat_lt 0 n) (λ found. none (ltb-true 0 n found))
 
 -- a message where no antimessage is kept, for a router that has handled nothing as late
-pub message_last : (o u : Shard) (e : Event) → IsCase o.case → owns o e.dst ≡ true → o.kept ≡ [] → AllByRecursion (λ (p : Event). p.time < e.time) (history (timeline o e.dst))
-    → u ≡ record o { pending = insert event_before e o.pending } → (stop : ℕ) → shard_core stop u ≡ after_message (simulation o.case) (shard_core stop o) e
+pub message_last : (o u : Shard) (e : Event) → IsCase o.terms.case → owns o e.dst ≡ true → o.kept ≡ [] → AllByRecursion (λ (p : Event). p.time < e.time) (history (timeline o e.dst))
+    → u ≡ record o { pending = insert event_before e o.pending } → (stop : ℕ) → shard_core stop u ≡ after_message (simulation o.terms.case) (shard_core stop o) e
 message_last o u e is mine unkept early put stop =
-    let m = simulation o.case in
+    let m = simulation o.terms.case in
     let C = shard_core stop o in
     let here : C.history e.dst ≡ history (timeline o e.dst) = rw mine refl in
     let stays : without_later m C e ≡ C =
-    ap (λ h. after_undoing_while m (rolls reach.Later e) e.dst h C) here ∙ done_here o.case is reach.Later e [] (history (timeline o e.dst)) C refl early in
+    ap (λ h. after_undoing_while m (rolls reach.Later e) e.dst h C) here ∙ done_here o.terms.case is reach.Later e [] (history (timeline o e.dst)) C refl early in
     let none : times event_same e o.kept ≡ 0 = ap (times event_same e) unkept in
     ap (shard_core stop) put
     ∙ (ap (λ D. with_pending m D e) (sym stays)
@@ -41,23 +41,23 @@ message_last o u e is mine unkept early put stop =
 
 -- a message whose antimessage is not kept
 pub message_came : (o s t u : Shard) (e : Event) → s ≡ o → (0 < times event_same e o.kept → ⊥)
-    → ((stop : ℕ) → shard_core stop t ≡ after_undoing_while (simulation s.case) (rolls reach.Later e) e.dst ((shard_core stop s).history e.dst) (shard_core stop s))
-    → u ≡ record t { pending = insert event_before e t.pending } → (stop : ℕ) → shard_core stop u ≡ after_message (simulation o.case) (shard_core stop o) e
+    → ((stop : ℕ) → shard_core stop t ≡ after_undoing_while (simulation s.terms.case) (rolls reach.Later e) e.dst ((shard_core stop s).history e.dst) (shard_core stop s))
+    → u ≡ record t { pending = insert event_before e t.pending } → (stop : ℕ) → shard_core stop u ≡ after_message (simulation o.terms.case) (shard_core stop o) e
 message_came o s t u e is unkept back put stop =
-    let m = simulation o.case in
-    let rolled = subst (λ s. shard_core stop t ≡ after_undoing_while (simulation s.case) (rolls reach.Later e) e.dst ((shard_core stop s).history e.dst) (shard_core stop s)) is (back stop) in
+    let m = simulation o.terms.case in
+    let rolled = subst (λ s. shard_core stop t ≡ after_undoing_while (simulation s.terms.case) (rolls reach.Later e) e.dst ((shard_core stop s).history e.dst) (shard_core stop s)) is (back stop) in
     ap (shard_core stop) put
     ∙ (ap (λ C. with_pending m C e) rolled
     ∙ ap (λ b. if b then record (shard_core stop o) { kept = take_out event_same e o.kept } else with_pending m (without_later m (shard_core stop o) e) e) (sym (none_found (times event_same e o.kept) unkept)))
 
 -- what an antimessage does whose event is not pending
 apart : (o : Shard) (e : Event) (stop : ℕ) → (0 < times event_same e o.pending → ⊥)
-    → after_antimessage (simulation o.case) (shard_core stop o) e
+    → after_antimessage (simulation o.terms.case) (shard_core stop o) e
     ≡ (if nat_lt 0 (times event_same e ((shard_core stop o).history e.dst))
-    then without_pending (simulation o.case) (without_from (simulation o.case) (shard_core stop o) e) e
+    then without_pending (simulation o.terms.case) (without_from (simulation o.terms.case) (shard_core stop o) e) e
     else record (shard_core stop o) { kept = insert event_before e o.kept })
 apart o e stop none =
-    let m = simulation o.case in
+    let m = simulation o.terms.case in
     let C = shard_core stop o in
     ap (λ b. if b then without_pending m C e else (if nat_lt 0 (times event_same e (C.history e.dst))
     then without_pending m (without_from m C e) e
@@ -65,12 +65,12 @@ apart o e stop none =
 
 -- an antimessage whose event is handled
 pub antimessage_came : (o s t u : Shard) (e : Event) → s ≡ o → owns o e.dst ≡ true → (0 < times event_same e o.pending → ⊥) → 0 < times event_same e (timeline o e.dst).ahead
-    → ((stop : ℕ) → shard_core stop t ≡ after_undoing_while (simulation s.case) (rolls reach.From e) e.dst ((shard_core stop s).history e.dst) (shard_core stop s))
-    → u ≡ record t { pending = take_out event_same e t.pending } → (stop : ℕ) → shard_core stop u ≡ after_antimessage (simulation o.case) (shard_core stop o) e
+    → ((stop : ℕ) → shard_core stop t ≡ after_undoing_while (simulation s.terms.case) (rolls reach.From e) e.dst ((shard_core stop s).history e.dst) (shard_core stop s))
+    → u ≡ record t { pending = take_out event_same e t.pending } → (stop : ℕ) → shard_core stop u ≡ after_antimessage (simulation o.terms.case) (shard_core stop o) e
 antimessage_came o s t u e is mine none some back taken stop =
-    let m = simulation o.case in
+    let m = simulation o.terms.case in
     let C = shard_core stop o in
-    let rolled = subst (λ s. shard_core stop t ≡ after_undoing_while (simulation s.case) (rolls reach.From e) e.dst ((shard_core stop s).history e.dst) (shard_core stop s)) is (back stop) in
+    let rolled = subst (λ s. shard_core stop t ≡ after_undoing_while (simulation s.terms.case) (rolls reach.From e) e.dst ((shard_core stop s).history e.dst) (shard_core stop s)) is (back stop) in
     let line = timeline o e.dst in
     let here : C.history e.dst ≡ line.ahead ++ line.past = rw mine refl in
     let count = times_two e line.ahead line.past in
@@ -92,9 +92,9 @@ none_past case is e t (p ∷ past) late all =
 -- an antimessage that came before its message
 pub antimessage_early : (o s u : Shard) (e : Event) → s ≡ o → IsSoundShard s → owns o e.dst ≡ true → o.bound ≤ e.time → (0 < times event_same e o.pending → ⊥)
     → (0 < times event_same e (timeline s e.dst).ahead → ⊥) → AllByRecursion (λ (p : Event). p.time < (timeline s e.dst).done) (timeline s e.dst).past
-    → u ≡ record s { kept = insert event_before e s.kept } → (stop : ℕ) → shard_core stop u ≡ after_antimessage (simulation o.case) (shard_core stop o) e
+    → u ≡ record s { kept = insert event_before e s.kept } → (stop : ℕ) → shard_core stop u ≡ after_antimessage (simulation o.terms.case) (shard_core stop o) e
 antimessage_early o s u e is whole own late none unhandled past put stop =
-    let m = simulation o.case in
+    let m = simulation o.terms.case in
     let C = shard_core stop o in
     let line = timeline s e.dst in
     let mine : owns s e.dst ≡ true = ap (λ s. owns s e.dst) is ∙ own in
@@ -102,7 +102,7 @@ antimessage_early o s u e is whole own late none unhandled past put stop =
     let count = times_two e line.ahead line.past in
     let done = (whole.routers e.dst mine).done in
     let bound = ap (λ s. s.bound) is in
-    let old = none_past s.case whole.case e line.done line.past (omega arith) past in
+    let old = none_past s.terms.case whole.case e line.done line.past (omega arith) past in
     let absent : nat_lt 0 (times event_same e (C.history e.dst)) ≡ false =
     ap (λ xs. nat_lt 0 (times event_same e xs)) here ∙ none_found (times event_same e (line.ahead ++ line.past)) (λ some. unhandled (omega arith)) in
     ap (shard_core stop) (subst (λ s. u ≡ record s { kept = insert event_before e s.kept }) is put)
@@ -122,13 +122,13 @@ all_tests true true suit bound h = absurd (cc h)
 all_tests false late suit bound h = absurd (cc h)
 
 -- what may come is for one of its routers, not before the bound, and suits its receiver
-pub welcome : (s : Shard) (e : Event) → refusing s e ≡ Ok tt → (owns s e.dst ≡ true) × (s.bound ≤ e.time) × (suits s.case.net e.dst e ≡ true)
+pub welcome : (s : Shard) (e : Event) → refusing s e ≡ Ok tt → (owns s e.dst ≡ true) × (s.bound ≤ e.time) × (suits s.terms.case.net e.dst e ≡ true)
 welcome s e may =
-    let all = all_tests (owns s e.dst) (nat_lt e.time s.bound) (suits s.case.net e.dst e) s.bound may in
+    let all = all_tests (owns s e.dst) (nat_lt e.time s.bound) (suits s.terms.case.net e.dst e) s.bound may in
     (all.0, ltb-false e.time s.bound all.1, all.2)
 
 -- and comes
-pub received : (stop : ℕ) (s : Shard) (x : Signed Event) (C : Core Event) → refusing s x.event ≡ Ok tt → C ≡ after_arrival (simulation s.case) (shard_core stop s) x
+pub received : (stop : ℕ) (s : Shard) (x : Signed Event) (C : Core Event) → refusing s x.event ≡ Ok tt → C ≡ after_arrival (simulation s.terms.case) (shard_core stop s) x
     → receiving stop s x ≡ Ok C
 received stop s x C may came =
-    ap (λ o. result_and o (Ok (after_arrival (simulation s.case) (shard_core stop s) x))) may ∙ ap (λ D. Ok D) (sym came)
+    ap (λ o. result_and o (Ok (after_arrival (simulation s.terms.case) (shard_core stop s) x))) may ∙ ap (λ D. Ok D) (sym came)

@@ -249,7 +249,7 @@ module _ (s : Shard) (r : ℕ) (whole : IsSoundShard s) (mine : owns s r ≡ tru
   abbrev WasEarly : Type 0
   WasEarly = AllByRecursion (λ (e : Event). e.time < (timeline s r).done) (timeline s r).past
 
-  pub core_committed : WasEarly → (stop : ℕ) → shard_core stop (committed_at s r) ≡ with_commit (simulation s.case) (shard_core stop s) r
+  pub core_committed : WasEarly → (stop : ℕ) → shard_core stop (committed_at s r) ≡ with_commit (simulation s.terms.case) (shard_core stop s) r
   core_committed early stop =
       let t : Timeline = committed_to s.bound (timeline s r) in
       let here : (shard_core stop s).history r ≡ history (timeline s r) = rw mine refl in
@@ -274,32 +274,32 @@ module _ (s : Shard) (r : ℕ) (whole : IsSoundShard s) (mine : owns s r ≡ tru
         room = rooms i;
         bound = s.bound;
         stop = stop;
-        cancel = s.cancel;
+        cancel = s.terms.cancel;
       }
 
   -- what the machine does where the router is one of its own
   pub goes : WasEarly → (stop : ℕ) → committing stop s r ≡ Ok (shard_core stop (committed_at s r))
   goes early stop =
-      ap (λ b. if b then Ok (with_commit (simulation s.case) (shard_core stop s) r) else Err NotMine) mine ∙ ap (λ c. Ok c) (sym (core_committed early stop))
+      ap (λ b. if b then Ok (with_commit (simulation s.terms.case) (shard_core stop s) r) else Err NotMine) mine ∙ ap (λ c. Ok c) (sym (core_committed early stop))
 
   -- what is said of a router's timeline after a commit, of a history of this case
   committed_timeline : (P : Timeline → Case → List Event → Type 0) → P (committed_to s.bound (timeline s r)) (timeline s r).case (history (timeline s r))
-      → P (timeline (committed_at s r) r) s.case ((shard_core 0 s).history r)
+      → P (timeline (committed_at s r) r) s.terms.case ((shard_core 0 s).history r)
   committed_timeline P told =
       let t : Timeline = committed_to s.bound (timeline s r) in
       let now : timeline (committed_at s r) r ≡ t = timeline_here s r t s.pending s.outgoing s.held whole mine in
       let here : (shard_core 0 s).history r ≡ history (timeline s r) = rw mine refl in
-      subst (λ u. P u s.case ((shard_core 0 s).history r)) (sym now)
-      (subst (P t s.case) (sym here) (subst (λ case. P t case (history (timeline s r))) (whole.routers r mine).case told))
+      subst (λ u. P u s.terms.case ((shard_core 0 s).history r)) (sym now)
+      (subst (P t s.terms.case) (sym here) (subst (λ case. P t case (history (timeline s r))) (whole.routers r mine).case told))
 
   -- where its history is in order, all before the bound is committed
   pub past_committed : (IsFalling (simulation (timeline s r).case) (history (timeline s r))
       → (committed_to s.bound (timeline s r)).past ≡ below (simulation (timeline s r).case) s.bound (history (timeline s r)))
-      → IsFalling (simulation s.case) ((shard_core 0 s).history r) → (timeline (committed_at s r) r).past ≡ below (simulation s.case) s.bound ((shard_core 0 s).history r)
+      → IsFalling (simulation s.terms.case) ((shard_core 0 s).history r) → (timeline (committed_at s r) r).past ≡ below (simulation s.terms.case) s.bound ((shard_core 0 s).history r)
   past_committed = committed_timeline (λ t case h. IsFalling (simulation case) h → t.past ≡ below (simulation case) s.bound h)
 
   -- and what can be undone still is all that is not before the bound
   pub ahead_committed : (IsFalling (simulation (timeline s r).case) (history (timeline s r))
       → (committed_to s.bound (timeline s r)).ahead ≡ not_before s.bound (history (timeline s r)))
-      → IsFalling (simulation s.case) ((shard_core 0 s).history r) → (timeline (committed_at s r) r).ahead ≡ not_before s.bound ((shard_core 0 s).history r)
+      → IsFalling (simulation s.terms.case) ((shard_core 0 s).history r) → (timeline (committed_at s r) r).ahead ≡ not_before s.bound ((shard_core 0 s).history r)
   ahead_committed = committed_timeline (λ t case h. IsFalling (simulation case) h → t.ahead ≡ not_before s.bound h)

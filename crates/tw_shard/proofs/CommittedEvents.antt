@@ -101,22 +101,22 @@ abbrev pub told : Case → ℕ → List Event → Router
 told case r history = record { net = case.net; node = r; state = state (simulation case) r history }
 
 module _ (case : Case) (ss : List Shard) (all : HaveAll case ss) (r : ℕ) (known : r < case.net.nodes) (s : Shard) (there : s ≡ shard_for ss r) where
-  pub case_there : s.case ≡ case
-  case_there = ap (λ (x : Shard). x.case) there ∙ all.cases r known
+  pub case_there : s.terms.case ≡ case
+  case_there = ap (λ (x : Shard). x.terms.case) there ∙ all.cases r known
 
   pub own_there : owns s r ≡ true
   own_there = ap (λ x. owns x r) there ∙ all.own r known
 
-  pub oldest_there : take (length (committed (simulation s.case) (shard_core 0 s) r)) (reverse ((shard_core 0 s).history r)) ≡ oldest_in case ss r
+  pub oldest_there : take (length (committed (simulation s.terms.case) (shard_core 0 s) r)) (reverse ((shard_core 0 s).history r)) ≡ oldest_in case ss r
   oldest_there = λ i. take (length (committed (simulation (case_there i)) (shard_core 0 (there i)) r)) (reverse ((shard_core 0 (there i)).history r))
 
-  pub ahead_there : length ((shard_core 0 s).history r) - length (committed (simulation s.case) (shard_core 0 s) r) ≡ ahead_in case ss r
+  pub ahead_there : length ((shard_core 0 s).history r) - length (committed (simulation s.terms.case) (shard_core 0 s) r) ≡ ahead_in case ss r
   ahead_there = λ i. length ((shard_core 0 (there i)).history r) - length (committed (simulation (case_there i)) (shard_core 0 (there i)) r)
 
-  pub change_there : last_change_at s.case.net r ((shard_core 0 s).history r) ≡ last_change_at case.net r (history_in ss r)
+  pub change_there : last_change_at s.terms.case.net r ((shard_core 0 s).history r) ≡ last_change_at case.net r (history_in ss r)
   change_there = λ i. last_change_at (case_there i).net r ((shard_core 0 (there i)).history r)
 
-  pub router_there : told s.case r ((shard_core 0 s).history r) ≡ told case r (history_in ss r)
+  pub router_there : told s.terms.case r ((shard_core 0 s).history r) ≡ told case r (history_in ss r)
   router_there = λ i. told (case_there i) r ((shard_core 0 (there i)).history r)
 
 -- ---- in order

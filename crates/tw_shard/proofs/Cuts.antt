@@ -93,19 +93,19 @@ module _ (case : Case) (is : IsCase case) (time : ℕ) where
 
 -- a shard with its routers as they stand at a time, the events that the run leaves for them, and nothing else
 pub record IsAt (time : ℕ) (s : Shard) : Type 0 where
-  pub case : IsCase s.case
-  pub worker : s.worker < s.workers
-  pub known : (k r : ℕ) → StandsInList s.routers k r → r < s.case.net.nodes
+  pub case : IsCase s.terms.case
+  pub worker : s.terms.worker < s.terms.workers
+  pub known : (k r : ℕ) → StandsInList s.routers k r → r < s.terms.case.net.nodes
   pub apart : StandOnce s.routers
-  pub timelines : s.timelines ≡ map (timeline_at s.case s.retains time) s.routers
-  pub pending : s.pending ≡ filter (λ e. has s.routers e.dst) (rest (simulation s.case) time)
+  pub timelines : s.timelines ≡ map (timeline_at s.terms.case s.terms.retains time) s.routers
+  pub pending : s.pending ≡ filter (λ e. has s.routers e.dst) (rest (simulation s.terms.case) time)
   pub kept : s.kept ≡ []
   pub outgoing : s.outgoing ≡ []
   pub held : s.held ≡ []
   pub bound : s.bound ≡ time
 
 module _ (time : ℕ) (s : Shard) (is : IsAt time s) where
-  laid_at : IsLaid (timeline_at s.case s.retains time) s
+  laid_at : IsLaid (timeline_at s.terms.case s.terms.retains time) s
   laid_at = record {
     case = is.case;
     worker = is.worker;
@@ -114,31 +114,31 @@ module _ (time : ℕ) (s : Shard) (is : IsAt time s) where
     timelines = is.timelines;
     lines = λ r. record { net = refl; node = refl; done = let bound = is.bound in omega arith; case = refl; retains = refl };
     pending =
-        let P = λ (e : Event). suits s.case.net e.dst e ≡ true in
+        let P = λ (e : Event). suits s.terms.case.net e.dst e ≡ true in
         subst (AllByRecursion P) (sym is.pending)
-        (all-filter event_before event_same P (λ e. has s.routers e.dst) (rest (simulation s.case) time) (left_suits s.case is.case time));
+        (all-filter event_before event_same P (λ e. has s.routers e.dst) (rest (simulation s.terms.case) time) (left_suits s.terms.case is.case time));
     held = is.held;
   }
 
   pub whole_at : IsSoundShard s
-  whole_at = whole_laid (timeline_at s.case s.retains time) s laid_at
+  whole_at = whole_laid (timeline_at s.terms.case s.terms.retains time) s laid_at
 
   -- what its routers have handled is before the time
   pub latest_at : (latest : ℕ) → latest ≡ time - 1 → HasHandledTo latest s
   latest_at latest last =
-      latest_laid (timeline_at s.case s.retains time) s laid_at latest
-      (λ r. all_map (λ e. e.time < time) (λ e. e.time ≤ latest) (λ e early. omega arith) (own_run s.case r time) (run_early s.case is.case time r))
+      latest_laid (timeline_at s.terms.case s.terms.retains time) s laid_at latest
+      (λ r. all_map (λ e. e.time < time) (λ e. e.time ≤ latest) (λ e early. omega arith) (own_run s.terms.case r time) (run_early s.terms.case is.case time r))
 
-  pub shard_at : (who : ℕ → ℕ) → s.routers ≡ filter (λ r. who r == s.worker) (range_with_len 0 s.case.net.nodes)
-      → IsShardAt s.case who time s.worker s.retains s.cancel s
+  pub shard_at : (who : ℕ → ℕ) → s.routers ≡ filter (λ r. who r == s.terms.worker) (range_with_len 0 s.terms.case.net.nodes)
+      → IsShardAt s.terms.case who time s.terms.worker s.terms.retains s.terms.cancel s
   shard_at who order = record {
-    owns_are = owned_by s.routers who s.worker s.case.net.nodes order;
-    routers = laid (timeline_at s.case s.retains time) s laid_at;
-    pending = is.pending ∙ same_filter (has s.routers) (λ r. who r == s.worker) (rest (simulation s.case) time)
-        (all_map (λ e. suits s.case.net e.dst e ≡ true) (λ e. has s.routers e.dst ≡ (who e.dst == s.worker))
-        (λ e h. let within = suits_within s.case.net e.dst e is.case.net h in
-        owned_by s.routers who s.worker s.case.net.nodes order e.dst ∙ ap (λ b. b && (who e.dst == s.worker)) (lt-ltb e.dst s.case.net.nodes within))
-        (rest (simulation s.case) time) (left_suits s.case is.case time));
+    owns_are = owned_by s.routers who s.terms.worker s.terms.case.net.nodes order;
+    routers = laid (timeline_at s.terms.case s.terms.retains time) s laid_at;
+    pending = is.pending ∙ same_filter (has s.routers) (λ r. who r == s.terms.worker) (rest (simulation s.terms.case) time)
+        (all_map (λ e. suits s.terms.case.net e.dst e ≡ true) (λ e. has s.routers e.dst ≡ (who e.dst == s.terms.worker))
+        (λ e h. let within = suits_within s.terms.case.net e.dst e is.case.net h in
+        owned_by s.routers who s.terms.worker s.terms.case.net.nodes order e.dst ∙ ap (λ b. b && (who e.dst == s.terms.worker)) (lt-ltb e.dst s.terms.case.net.nodes within))
+        (rest (simulation s.terms.case) time) (left_suits s.terms.case is.case time));
     kept = is.kept;
     outgoing = is.outgoing;
     held = is.held;

@@ -8,8 +8,8 @@ use Rattle.tw_model.specs.declared.limits.TheConstants.{LATEST}
 use Rattle.tw_model.specs.Effect.{body_suits, fits, suits}
 use Rattle.tw_model.specs.Net.{Net}
 use Rattle.tw_shard.specs.declared.shard.Shard.TheInside.{Inside}
-use Rattle.tw_shard.specs.Inside.{HasHandledTo, IsShard, shard_of}
-use Rattle.tw_shard.specs.Shard.{IsSoundShard, owns, place}
+use Rattle.tw_shard.specs.Inside.{HasHandledTo, IsShard, shard_of, terms_of}
+use Rattle.tw_shard.specs.Shard.{IsSoundShard, Terms, owns, place}
 use Rattle.tw_shard.specs.Timeline.{Timeline, history}
 use Rattle.tw_shard.proofs.Latest.{latest_changed}
 use Rattle.tw_shard.proofs.Shares.{changed, whole_after}
@@ -34,24 +34,18 @@ fits_suits net v e h =
 
 -- b has another timeline of router r, and perhaps another list of what is pending, what is sent and what is held
 pub record IsChanged (a b : Inside) (r : ℕ) (t : Timeline) : Type 0 where
-  pub case : b.case.now ≡ a.case.now
-  pub worker : b.worker ≡ a.worker
-  pub workers : b.workers ≡ a.workers
+  pub terms : terms_of b ≡ terms_of a
   pub roster : b.roster ≡ a.roster
   pub timelines : b.timelines.items ≡ set a.timelines.items (place (shard_of a) r) t
   pub kept : b.kept.events ≡ a.kept.events
   pub bound : b.bound ≡ a.bound
-  pub retains : b.retains ≡ a.retains
-  pub cancel : b.cancel ≡ a.cancel
   pub pending_routers : b.pending.routers ≡ a.pending.routers
   pub kept_routers : b.kept.routers ≡ a.kept.routers
   pub held_routers : b.held.routers ≡ a.held.routers
 
 changed_is : (a b : Inside) (r : ℕ) (t : Timeline) → IsChanged a b r t → changed (shard_of a) r t b.pending.events b.outgoing.items b.held.events ≡ shard_of b
 changed_is a b r t h = λ i. record {
-  case = sym h.case i;
-  worker = sym h.worker i;
-  workers = sym h.workers i;
+  terms = sym h.terms i;
   routers = (sym h.roster i).routers;
   timelines = sym h.timelines i;
   pending = b.pending.events;
@@ -59,20 +53,18 @@ changed_is a b r t h = λ i. record {
   outgoing = b.outgoing.items;
   held = b.held.events;
   bound = sym h.bound i;
-  retains = sym h.retains i;
-  cancel = sym h.cancel i;
 }
 
 pub changed_shard : (a b : Inside) (r : ℕ) (t : Timeline) → IsShard a → owns (shard_of a) r ≡ true → IsChanged a b r t
-    → t.net ≡ (shard_of a).case.net → t.node ≡ r → t.done ≤ a.bound → t.case ≡ (shard_of a).case → t.retains ≡ (shard_of a).retains
-    → AllByRecursion (λ e. suits (shard_of a).case.net e.dst e ≡ true) b.pending.events
+    → t.net ≡ (shard_of a).terms.case.net → t.node ≡ r → t.done ≤ a.bound → t.case ≡ (shard_of a).terms.case → t.retains ≡ (shard_of a).terms.retains
+    → AllByRecursion (λ e. suits (shard_of a).terms.case.net e.dst e ≡ true) b.pending.events
     → IsRising event_before event_same b.held.events → a.latest ≤ b.latest → AllByRecursion (λ (e : Event). e.time ≤ b.latest) (history t) → IsShard b
 changed_shard a b r t is mine h net node done case retains suit rising later until = record {
   whole = subst IsSoundShard (changed_is a b r t h) (whole_after (shard_of a) r t b.pending.events b.outgoing.items b.held.events is.whole mine net node done case retains suit rising);
-  roster = ap (λ x. x.count) h.roster ∙ (is.roster ∙ ap (λ c. c.net.nodes) (sym h.case));
-  pending = h.pending_routers ∙ (is.pending ∙ ap (λ c. c.net.nodes) (sym h.case));
-  kept = h.kept_routers ∙ (is.kept ∙ ap (λ c. c.net.nodes) (sym h.case));
-  held = h.held_routers ∙ (is.held ∙ ap (λ c. c.net.nodes) (sym h.case));
+  roster = ap (λ x. x.count) h.roster ∙ (is.roster ∙ ap (λ (x : Terms). x.case.net.nodes) (sym h.terms));
+  pending = h.pending_routers ∙ (is.pending ∙ ap (λ (x : Terms). x.case.net.nodes) (sym h.terms));
+  kept = h.kept_routers ∙ (is.kept ∙ ap (λ (x : Terms). x.case.net.nodes) (sym h.terms));
+  held = h.held_routers ∙ (is.held ∙ ap (λ (x : Terms). x.case.net.nodes) (sym h.terms));
   latest =
       subst (HasHandledTo b.latest) (changed_is a b r t h)
       (latest_changed (shard_of a) r t b.pending.events b.outgoing.items b.held.events is.whole mine a.latest b.latest later is.latest until);

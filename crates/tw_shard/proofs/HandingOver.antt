@@ -126,11 +126,11 @@ module _ (s : Shard) (r : ℕ) (whole : IsSoundShard s) (mine : owns s r ≡ tru
     held = refl;
     outgoing = refl;
     bound = refl;
-    terms = record { case = refl; worker = refl; workers = refl; retains = refl; cancel = refl };
+    terms = refl;
   }
 
   -- with whatever waits and is held, the shard stays whole
-  whole_with : (pending kept held : List Event) → AllByRecursion (λ e. suits s.case.net e.dst e ≡ true) pending → IsRising event_before event_same held
+  whole_with : (pending kept held : List Event) → AllByRecursion (λ e. suits s.terms.case.net e.dst e ≡ true) pending → IsRising event_before event_same held
       → IsSoundShard (record s { routers = rs; timelines = ts; pending = pending; kept = kept; held = held })
   whole_with pending kept held suit rising = record {
     case = whole.case;
@@ -156,8 +156,8 @@ module _ (s : Shard) (r : ℕ) (whole : IsSoundShard s) (mine : owns s r ≡ tru
   pub whole_left : IsSoundShard after_leaving
   whole_left =
       whole_with (for_others r s.pending) (for_others r s.kept) (sent_by_others r s.held)
-      (all-filter event_before event_same (λ e. suits s.case.net e.dst e ≡ true) (λ e. not (e.dst == r)) s.pending whole.pending)
-      (rising_part s.case whole.case (λ e. not (e.src == r)) s.held whole.held)
+      (all-filter event_before event_same (λ e. suits s.terms.case.net e.dst e ≡ true) (λ e. not (e.dst == r)) s.pending whole.pending)
+      (rising_part s.terms.case whole.case (λ e. not (e.src == r)) s.held whole.held)
 
   pub latest_left : (time : ℕ) → HasHandledTo time s → HasHandledTo time after_leaving
   latest_left time all q ours =
@@ -178,7 +178,7 @@ module _ (s : Shard) (r : ℕ) (whole : IsSoundShard s) (mine : owns s r ≡ tru
 
 -- ---- the shard to which it comes
 
-module _ (s t : Shard) (r : ℕ) (giver : IsSoundShard s) (mine : owns s r ≡ true) (whole : IsSoundShard t) (new : owns t r ≡ false) (case : t.case ≡ s.case) (retains : t.retains ≡ s.retains) where
+module _ (s t : Shard) (r : ℕ) (giver : IsSoundShard s) (mine : owns s r ≡ true) (whole : IsSoundShard t) (new : owns t r ≡ false) (case : t.terms.case ≡ s.terms.case) (retains : t.terms.retains ≡ s.terms.retains) where
   abbrev pub after_coming : Shard
   after_coming = record t {
     routers = t.routers ++ r ∷ [];
@@ -215,7 +215,7 @@ module _ (s t : Shard) (r : ℕ) (giver : IsSoundShard s) (mine : owns s r ≡ t
     held = refl;
     outgoing = refl;
     bound = refl;
-    terms = record { case = refl; worker = refl; workers = refl; retains = refl; cancel = refl };
+    terms = refl;
   }
 
   new_there : HasTimeline after_coming r
@@ -276,8 +276,8 @@ module _ (s t : Shard) (r : ℕ) (giver : IsSoundShard s) (mine : owns s r ≡ t
         | inr apart ↦ absurd (false≢true (sym (has_added t.routers r whole.apart new q ∙ (ap (λ b. b || (q == r)) none ∙ ne_eqb q r apart)) ∙ ours))
       ]
     ];
-    pending = all_inserted (λ e. suits t.case.net e.dst e ≡ true) (for_router r s.pending) t.pending
-        (all-filter event_before event_same (λ e. suits t.case.net e.dst e ≡ true) (λ e. e.dst == r) s.pending
+    pending = all_inserted (λ e. suits t.terms.case.net e.dst e ≡ true) (for_router r s.pending) t.pending
+        (all-filter event_before event_same (λ e. suits t.terms.case.net e.dst e ≡ true) (λ e. e.dst == r) s.pending
         (subst (λ c. AllByRecursion (λ e. suits c.net e.dst e ≡ true) s.pending) (sym case) giver.pending)) whole.pending;
     held = rising-insert_all event_before event_same event_law (sent_by r s.held) t.held whole.held;
   }

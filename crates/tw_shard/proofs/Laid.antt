@@ -23,21 +23,21 @@ read_there f (y ∷ xs) (suc k) x d there = let more = read_there f xs k x d the
 
 -- a timeline that router r of a shard may have
 pub record IsLine (s : Shard) (r : ℕ) (t : Timeline) : Type 0 where
-  pub net : t.net ≡ s.case.net
+  pub net : t.net ≡ s.terms.case.net
   pub node : t.node ≡ r
   pub done : t.done ≤ s.bound
-  pub case : t.case ≡ s.case
-  pub retains : t.retains ≡ s.retains
+  pub case : t.case ≡ s.terms.case
+  pub retains : t.retains ≡ s.terms.retains
 
 -- each router of a shard has the timeline of its number, and nothing is held
 pub record IsLaid (line : ℕ → Timeline) (s : Shard) : Type 0 where
-  pub case : IsCase s.case
-  pub worker : s.worker < s.workers
-  pub known : (k r : ℕ) → StandsInList s.routers k r → r < s.case.net.nodes
+  pub case : IsCase s.terms.case
+  pub worker : s.terms.worker < s.terms.workers
+  pub known : (k r : ℕ) → StandsInList s.routers k r → r < s.terms.case.net.nodes
   pub apart : StandOnce s.routers
   pub timelines : s.timelines ≡ map line s.routers
   pub lines : (r : ℕ) → IsLine s r (line r)
-  pub pending : AllByRecursion (λ e. suits s.case.net e.dst e ≡ true) s.pending
+  pub pending : AllByRecursion (λ e. suits s.terms.case.net e.dst e ≡ true) s.pending
   pub held : s.held ≡ []
 
 module _ (line : ℕ → Timeline) (s : Shard) (is : IsLaid line s) where

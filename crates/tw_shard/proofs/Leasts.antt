@@ -42,7 +42,7 @@ one_told stop s x is some = by (least event_before s.pending) is where
 -- a router of others handles nothing
 pub not_own : (stop : ℕ) (s : Shard) (r : ℕ) → owns s r ≡ false → handling stop s r ≡ Err NotMine
 not_own stop s r other =
-    let m = simulation s.case in
+    let m = simulation s.terms.case in
     ap (λ b. if b then handle m (shard_core stop s) r (first_pending m (shard_core stop s) r) else Err NotMine) other
 
 -- what is refused to a stop is refused to each later one, but for what is not before the stop
@@ -59,7 +59,7 @@ module _ (limit stop : ℕ) (s : Shard) (r : ℕ) (f : Refusal) (later : limit �
   -- what handling e leads to, where it is before the stop
   abbrev opened : ℕ → Event → Result (Core Event) Refusal
   opened time e =
-      let m = simulation s.case in
+      let m = simulation s.terms.case in
       let C = shard_core time s in
       if is_newest m e (C.history r) then Err Double
       else (if nat_lt (count_ahead C r) (C.room r)
@@ -67,10 +67,10 @@ module _ (limit stop : ℕ) (s : Shard) (r : ℕ) (f : Refusal) (later : limit �
       else Ok (after_handling m C r e))
       else Err AheadFull)
 
-  handled_later : (o : Option Event) → handle (simulation s.case) (shard_core limit s) r o ≡ Err f → handle (simulation s.case) (shard_core stop s) r o ≡ Err f
+  handled_later : (o : Option Event) → handle (simulation s.terms.case) (shard_core limit s) r o ≡ Err f → handle (simulation s.terms.case) (shard_core stop s) r o ≡ Err f
   handled_later None h = h
   handled_later (Some e) h =
-      let m = simulation s.case in
+      let m = simulation s.terms.case in
       let C = shard_core limit s in
       elim (cases_Bool (nat_lt e.time limit)) [
         | inl soon ↦
@@ -87,7 +87,7 @@ module _ (limit stop : ℕ) (s : Shard) (r : ℕ) (f : Refusal) (later : limit �
 
   pub refused_later : handling limit s r ≡ Err f → handling stop s r ≡ Err f
   refused_later h =
-      let m = simulation s.case in
+      let m = simulation s.terms.case in
       elim (cases_Bool (owns s r)) [
         | inl own ↦
             let first = first_pending m (shard_core limit s) r in

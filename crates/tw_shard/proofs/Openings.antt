@@ -58,19 +58,19 @@ owned_by rs who k nodes order r = ap (λ rs. has rs r) order ∙ has_own (λ r. 
 
 -- a shard with its routers as they begin, the opening events for them, and nothing else
 pub record IsBegun (s : Shard) : Type 0 where
-  pub case : IsCase s.case
-  pub worker : s.worker < s.workers
-  pub known : (k r : ℕ) → StandsInList s.routers k r → r < s.case.net.nodes
+  pub case : IsCase s.terms.case
+  pub worker : s.terms.worker < s.terms.workers
+  pub known : (k r : ℕ) → StandsInList s.routers k r → r < s.terms.case.net.nodes
   pub apart : StandOnce s.routers
-  pub timelines : s.timelines ≡ map (opening_timeline s.case s.retains) s.routers
-  pub pending : s.pending ≡ insert_all event_before (filter (λ e. owns s e.dst) (opening_events s.case.scenes)) []
+  pub timelines : s.timelines ≡ map (opening_timeline s.terms.case s.terms.retains) s.routers
+  pub pending : s.pending ≡ insert_all event_before (filter (λ e. owns s e.dst) (opening_events s.terms.case.scenes)) []
   pub kept : s.kept ≡ []
   pub outgoing : s.outgoing ≡ []
   pub held : s.held ≡ []
   pub bound : s.bound ≡ 0
 
 module _ (s : Shard) (is : IsBegun s) where
-  laid_begun : IsLaid (opening_timeline s.case s.retains) s
+  laid_begun : IsLaid (opening_timeline s.terms.case s.terms.retains) s
   laid_begun = record {
     case = is.case;
     worker = is.worker;
@@ -79,19 +79,19 @@ module _ (s : Shard) (is : IsBegun s) where
     timelines = is.timelines;
     lines = λ r. record { net = refl; node = refl; done = omega arith; case = refl; retains = refl };
     pending =
-        let P = λ (e : Event). suits s.case.net e.dst e ≡ true in
+        let P = λ (e : Event). suits s.terms.case.net e.dst e ≡ true in
         let own = λ (e : Event). owns s e.dst in
         subst (AllByRecursion P) (sym is.pending)
-        (all_inserted P (filter own (opening_events s.case.scenes)) [] (all-filter event_before event_same P own (opening_events s.case.scenes) (opening_suits s.case is.case)) tt);
+        (all_inserted P (filter own (opening_events s.terms.case.scenes)) [] (all-filter event_before event_same P own (opening_events s.terms.case.scenes) (opening_suits s.terms.case is.case)) tt);
     held = is.held;
   }
 
   -- each of its routers is as it begins
-  pub opened : (r : ℕ) → owns s r ≡ true → timeline s r ≡ opening_timeline s.case s.retains r
-  opened r mine = laid (opening_timeline s.case s.retains) s laid_begun r mine
+  pub opened : (r : ℕ) → owns s r ≡ true → timeline s r ≡ opening_timeline s.terms.case s.terms.retains r
+  opened r mine = laid (opening_timeline s.terms.case s.terms.retains) s laid_begun r mine
 
   -- what is read of each router is what is there where there is none
-  read_opened : {A : Type 0} (read : Timeline → A) (none : A) → ((r : ℕ) → read (opening_timeline s.case s.retains r) ≡ none)
+  read_opened : {A : Type 0} (read : Timeline → A) (none : A) → ((r : ℕ) → read (opening_timeline s.terms.case s.terms.retains r) ≡ none)
       → ◌≡◌ {A = ℕ → A} (λ r. if owns s r then read (timeline s r) else none) (λ r. none)
   read_opened read none same =
       fun_ext (λ r. elim (cases_Bool (owns s r)) [
@@ -100,30 +100,30 @@ module _ (s : Shard) (is : IsBegun s) where
       ])
 
   pub whole_begun : IsSoundShard s
-  whole_begun = whole_laid (opening_timeline s.case s.retains) s laid_begun
+  whole_begun = whole_laid (opening_timeline s.terms.case s.terms.retains) s laid_begun
 
   -- and none has handled anything
   pub latest_begun : HasHandledTo 0 s
-  latest_begun = latest_laid (opening_timeline s.case s.retains) s laid_begun 0 (λ r. tt)
+  latest_begun = latest_laid (opening_timeline s.terms.case s.terms.retains) s laid_begun 0 (λ r. tt)
 
   -- the routers are the worker's
-  own_by : (who : ℕ → ℕ) → s.routers ≡ filter (λ r. who r == s.worker) (range_with_len 0 s.case.net.nodes)
-      → (r : ℕ) → owns s r ≡ (nat_lt r s.case.net.nodes && (who r == s.worker))
-  own_by who order r = owned_by s.routers who s.worker s.case.net.nodes order r
+  own_by : (who : ℕ → ℕ) → s.routers ≡ filter (λ r. who r == s.terms.worker) (range_with_len 0 s.terms.case.net.nodes)
+      → (r : ℕ) → owns s r ≡ (nat_lt r s.terms.case.net.nodes && (who r == s.terms.worker))
+  own_by who order r = owned_by s.routers who s.terms.worker s.terms.case.net.nodes order r
 
   -- as a machine of its own routers it begins
-  core_begun : (who : ℕ → ℕ) → s.routers ≡ filter (λ r. who r == s.worker) (range_with_len 0 s.case.net.nodes)
-      → (stop : ℕ) → shard_core stop s ≡ opening_core_by s.case who s.worker s.cancel stop
+  core_begun : (who : ℕ → ℕ) → s.routers ≡ filter (λ r. who r == s.terms.worker) (range_with_len 0 s.terms.case.net.nodes)
+      → (stop : ℕ) → shard_core stop s ≡ opening_core_by s.terms.case who s.terms.worker s.terms.cancel stop
   core_begun who order stop =
       let histories = read_opened history [] (λ r. refl) in
       let dones = read_opened (λ (t : Timeline). t.done) 0 (λ r. refl) in
       let pasts = read_opened (λ (t : Timeline). length t.past) 0 (λ r. refl) in
       let rooms = read_opened (λ (t : Timeline). t.room) OPENING_ROOM (λ r. refl) in
-      let own = same_filter (λ r. owns s r) (λ r. who r == s.worker) (opening_events s.case.scenes)
-      (all_map (λ e. suits s.case.net e.dst e ≡ true) (λ e. owns s e.dst ≡ (who e.dst == s.worker))
-      (λ e h. let within = suits_within s.case.net e.dst e is.case.net h in
-      own_by who order e.dst ∙ ap (λ b. b && (who e.dst == s.worker)) (lt-ltb e.dst s.case.net.nodes within))
-      (opening_events s.case.scenes) (opening_suits s.case is.case)) in
+      let own = same_filter (λ r. owns s r) (λ r. who r == s.terms.worker) (opening_events s.terms.case.scenes)
+      (all_map (λ e. suits s.terms.case.net e.dst e ≡ true) (λ e. owns s e.dst ≡ (who e.dst == s.terms.worker))
+      (λ e h. let within = suits_within s.terms.case.net e.dst e is.case.net h in
+      own_by who order e.dst ∙ ap (λ b. b && (who e.dst == s.terms.worker)) (lt-ltb e.dst s.terms.case.net.nodes within))
+      (opening_events s.terms.case.scenes) (opening_suits s.terms.case is.case)) in
       let waits = is.pending ∙ ap (λ es. insert_all event_before es []) own in
       λ i. record {
         history = histories i;
@@ -136,18 +136,15 @@ module _ (s : Shard) (is : IsBegun s) where
         room = rooms i;
         bound = is.bound i;
         stop = stop;
-        cancel = s.cancel;
+        cancel = s.terms.cancel;
       }
 
-  pub opening : (who : ℕ → ℕ) → s.routers ≡ filter (λ r. who r == s.worker) (range_with_len 0 s.case.net.nodes)
-      → IsOpeningBy s.case who s.worker s.workers s.retains s.cancel s
+  pub opening : (who : ℕ → ℕ) → s.routers ≡ filter (λ r. who r == s.terms.worker) (range_with_len 0 s.terms.case.net.nodes)
+      → IsOpeningBy s.terms.case who s.terms.worker s.terms.workers s.terms.retains s.terms.cancel s
   opening who order = record {
     core_is = core_begun who order;
     owns_are = own_by who order;
     order = order;
     routers = opened;
-    case_is = refl;
-    worker = refl;
-    count = refl;
-    retains_are = refl;
+    terms = refl;
   }

@@ -51,8 +51,8 @@ none_released s r none =
 
 -- what the machine does where the router is one of its own
 pub releases : (stop : ℕ) (s : Shard) (r : ℕ) → owns s r ≡ true → releasing stop s r ≡ Ok (shard_core stop (released_at s r))
-releases stop s r mine = ap (λ b. if b then Ok (with_release (simulation s.case) (shard_core stop s) r) else Err NotMine) mine
+releases stop s r mine = ap (λ b. if b then Ok (with_release (simulation s.terms.case) (shard_core stop s) r) else Err NotMine) mine
 
 -- and where it is not
 pub refuses : (stop : ℕ) (s : Shard) (r : ℕ) → owns s r ≡ false → releasing stop s r ≡ Err NotMine
-refuses stop s r other = ap (λ b. if b then Ok (with_release (simulation s.case) (shard_core stop s) r) else Err NotMine) other
+refuses stop s r other = ap (λ b. if b then Ok (with_release (simulation s.terms.case) (shard_core stop s) r) else Err NotMine) other

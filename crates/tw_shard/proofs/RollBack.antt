@@ -13,7 +13,7 @@ use Rattle.tw_model.proofs.Lawful.{lawful}
 use Rattle.tw_shard.specs.Arrival.{IsRolledBack, rolls}
 use Rattle.tw_shard.specs.declared.rejection.Reach.{Reach}
 use Rattle.tw_shard.specs.declared.rejection.Reach.TheVariants.{From, Later}
-use Rattle.tw_shard.specs.Shard.{IsSameShare, IsSoundShard, IsUndone, Shard, owns, shard_core, timeline, undone_at}
+use Rattle.tw_shard.specs.Shard.{IsSameShare, IsSoundShard, IsUndone, Shard, Terms, owns, shard_core, timeline, undone_at}
 use Rattle.tw_shard.specs.Timeline.{history}
 use Rattle.tw_shard.proofs.Shares.{timeline_here}
 use Rattle.tw_shard.proofs.Steps.{core_undone}
@@ -62,15 +62,15 @@ pub record IsRolling (reach : Reach) (e : Event) (s t : Shard) : Type 0 where
   pub kept : t.kept ≡ s.kept
   pub bound : t.bound ≡ s.bound
   -- what was undone
-  pub undone : (stop : ℕ) → IsRolledBack (simulation t.case) e (shard_core stop s) (shard_core stop t)
+  pub undone : (stop : ℕ) → IsRolledBack (simulation t.terms.case) e (shard_core stop s) (shard_core stop t)
   -- what is still to be undone leads to the same
-  pub rest : (stop : ℕ) → after_undoing_while (simulation t.case) (rolls reach e) e.dst (history (timeline t e.dst)) (shard_core stop t)
-      ≡ after_undoing_while (simulation t.case) (rolls reach e) e.dst (history (timeline s e.dst)) (shard_core stop s)
+  pub rest : (stop : ℕ) → after_undoing_while (simulation t.terms.case) (rolls reach e) e.dst (history (timeline t e.dst)) (shard_core stop t)
+      ≡ after_undoing_while (simulation t.terms.case) (rolls reach e) e.dst (history (timeline s e.dst)) (shard_core stop s)
 
 pub rolling_none : (reach : Reach) (e : Event) (s : Shard) → owns s e.dst ≡ true → IsRolling reach e s s
 rolling_none reach e s own = record {
   own = own;
-  share = record { case = refl; worker = refl; workers = refl; routers = refl; retains = refl; cancel = refl };
+  share = record { terms = refl; routers = refl };
   kept = refl;
   bound = refl;
   undone = λ stop. (0, refl);
@@ -83,7 +83,7 @@ must_go reach e t = option_map_or (λ newest. rolls reach e newest) (slice_get (
 
 pub rolling_more : (reach : Reach) (e : Event) (s t u : Shard) → IsSoundShard t → IsRolling reach e s t → must_go reach e t → IsUndone e.dst t u → IsRolling reach e s u
 rolling_more reach e s t u whole far must h =
-    let m = simulation t.case in
+    let m = simulation t.terms.case in
     let r = e.dst in
     let x = h.0 in
     let older = h.1 in
@@ -96,10 +96,10 @@ rolling_more reach e s t u whole far must h =
     ap history (timeline_here t r (record (timeline t r) { ahead = older }) (undone_at t r x older).pending (undone_at t r x older).outgoing (undone_at t r x older).held whole far.own) in
     subst (IsRolling reach e s) (sym h.4) (record {
       own = far.own;
-      share = record { case = far.share.case; worker = far.share.worker; workers = far.share.workers; routers = far.share.routers; retains = far.share.retains; cancel = far.share.cancel };
+      share = record { terms = far.share.terms; routers = far.share.routers };
       kept = far.kept;
       bound = far.bound;
-      undone = λ stop. (suc (far.undone stop).0, (shard_core stop t, (far.undone stop).1, (x, older ++ past, here stop, rolled_late t.case whole.case reach e x goes, one stop)));
+      undone = λ stop. (suc (far.undone stop).0, (shard_core stop t, (far.undone stop).1, (x, older ++ past, here stop, rolled_late t.terms.case whole.case reach e x goes, one stop)));
       rest = λ stop.
           (λ i. after_undoing_while m (rolls reach e) r (left i) (one stop i))
           ∙ (sym (ap (λ b. cond b (after_undoing_while m (rolls reach e) r (older ++ past) (after_undoing m (shard_core stop t) r x (older ++ past))) (shard_core stop t)) goes)
@@ -122,15 +122,15 @@ times_before k t (p ∷ past) le all = ((let early = all.0 in omega arith), time
 pub rolling_done : (reach : Reach) (e : Event) (s t : Shard) → IsSoundShard t → IsRolling reach e s t → owns s e.dst ≡ true → s.bound ≤ e.time
     → option_map_or (λ newest. rolls reach e newest) (slice_get (timeline t e.dst).ahead 0) false ≡ false
     → AllByRecursion (λ (p : Event). p.time < (timeline t e.dst).done) (timeline t e.dst).past
-    → (stop : ℕ) → shard_core stop t ≡ after_undoing_while (simulation s.case) (rolls reach e) e.dst ((shard_core stop s).history e.dst) (shard_core stop s)
+    → (stop : ℕ) → shard_core stop t ≡ after_undoing_while (simulation s.terms.case) (rolls reach e) e.dst ((shard_core stop s).history e.dst) (shard_core stop s)
 rolling_done reach e s t whole far mine late stops past stop =
     let line = timeline t e.dst in
     let own = whole.routers e.dst far.own in
     let early = let done = own.done in let bound = far.bound in times_before line.done e.time line.past (omega arith) past in
     let here : (shard_core stop s).history e.dst ≡ history (timeline s e.dst) = rw mine refl in
-    sym (done_here t.case whole.case reach e line.ahead line.past (shard_core stop t) stops early)
+    sym (done_here t.terms.case whole.case reach e line.ahead line.past (shard_core stop t) stops early)
     ∙ (far.rest stop
-    ∙ (λ i. after_undoing_while (simulation (far.share.case i)) (rolls reach e) e.dst (sym here i) (shard_core stop s)))
+    ∙ (λ i. after_undoing_while (simulation (far.share.terms i).case) (rolls reach e) e.dst (sym here i) (shard_core stop s)))
 
 -- fewer events are left that can be undone
 pub fewer_left : (t u : Shard) (r : ℕ) → IsSoundShard t → owns t r ≡ true → IsUndone r t u → length (timeline u r).ahead < length (timeline t r).ahead
@@ -142,18 +142,18 @@ fewer_left t u r whole mine h =
     omega arith
 
 -- what was undone, by the case that the shard had before
-pub rolled_so_far : (reach : Reach) (e : Event) (s t u : Shard) → IsRolling reach e s t → u ≡ t → (stop : ℕ) → IsRolledBack (simulation s.case) e (shard_core stop s) (shard_core stop u)
+pub rolled_so_far : (reach : Reach) (e : Event) (s t u : Shard) → IsRolling reach e s t → u ≡ t → (stop : ℕ) → IsRolledBack (simulation s.terms.case) e (shard_core stop s) (shard_core stop u)
 rolled_so_far reach e s t u far is stop =
-    subst (λ v. IsRolledBack (simulation s.case) e (shard_core stop s) (shard_core stop v)) (sym is)
-    (subst (λ case. IsRolledBack (simulation case) e (shard_core stop s) (shard_core stop t)) far.share.case (far.undone stop))
+    subst (λ v. IsRolledBack (simulation s.terms.case) e (shard_core stop s) (shard_core stop v)) (sym is)
+    (subst (λ (x : Terms). IsRolledBack (simulation x.case) e (shard_core stop s) (shard_core stop t)) far.share.terms (far.undone stop))
 
 -- the same from a shard that is equal
-pub rolled_from : (s o t : Shard) (e : Event) → s ≡ o → ((stop : ℕ) → IsRolledBack (simulation s.case) e (shard_core stop s) (shard_core stop t))
-    → (stop : ℕ) → IsRolledBack (simulation o.case) e (shard_core stop o) (shard_core stop t)
-rolled_from s o t e is h stop = subst (λ s. IsRolledBack (simulation s.case) e (shard_core stop s) (shard_core stop t)) is (h stop)
+pub rolled_from : (s o t : Shard) (e : Event) → s ≡ o → ((stop : ℕ) → IsRolledBack (simulation s.terms.case) e (shard_core stop s) (shard_core stop t))
+    → (stop : ℕ) → IsRolledBack (simulation o.terms.case) e (shard_core stop o) (shard_core stop t)
+rolled_from s o t e is h stop = subst (λ s. IsRolledBack (simulation s.terms.case) e (shard_core stop s) (shard_core stop t)) is (h stop)
 
 -- nothing was undone
-pub rolled_none : (o t : Shard) (e : Event) → t ≡ o → (stop : ℕ) → IsRolledBack (simulation o.case) e (shard_core stop o) (shard_core stop t)
+pub rolled_none : (o t : Shard) (e : Event) → t ≡ o → (stop : ℕ) → IsRolledBack (simulation o.terms.case) e (shard_core stop o) (shard_core stop t)
 rolled_none o t e is stop = (0, ap (shard_core stop) is)
 
 -- what holds in any case holds at an error
@@ -162,6 +162,6 @@ on_err (Ok a) p = tt
 on_err (Err e) p = p
 
 -- the same to a shard that is equal
-pub rolled_to : (o t u : Shard) (e : Event) → u ≡ t → ((stop : ℕ) → IsRolledBack (simulation o.case) e (shard_core stop o) (shard_core stop t))
-    → (stop : ℕ) → IsRolledBack (simulation o.case) e (shard_core stop o) (shard_core stop u)
-rolled_to o t u e is h stop = subst (λ u. IsRolledBack (simulation o.case) e (shard_core stop o) (shard_core stop u)) (sym is) (h stop)
+pub rolled_to : (o t u : Shard) (e : Event) → u ≡ t → ((stop : ℕ) → IsRolledBack (simulation o.terms.case) e (shard_core stop o) (shard_core stop t))
+    → (stop : ℕ) → IsRolledBack (simulation o.terms.case) e (shard_core stop o) (shard_core stop u)
+rolled_to o t u e is h stop = subst (λ u. IsRolledBack (simulation o.terms.case) e (shard_core stop o) (shard_core stop u)) (sym is) (h stop)

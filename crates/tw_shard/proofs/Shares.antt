@@ -66,7 +66,7 @@ module _ (s : Shard) (r : ℕ) (t : Timeline) (pending : List Event) (outgoing :
       ])
 
   -- the shard stays whole
-  pub whole_after : t.net ≡ s.case.net → t.node ≡ r → t.done ≤ s.bound → t.case ≡ s.case → t.retains ≡ s.retains → AllByRecursion (λ e. suits s.case.net e.dst e ≡ true) pending
+  pub whole_after : t.net ≡ s.terms.case.net → t.node ≡ r → t.done ≤ s.bound → t.case ≡ s.terms.case → t.retains ≡ s.terms.retains → AllByRecursion (λ e. suits s.terms.case.net e.dst e ≡ true) pending
       → IsRising event_before event_same held → IsSoundShard after
   whole_after net node done case retains suit rising = record {
     case = whole.case;
@@ -76,11 +76,11 @@ module _ (s : Shard) (r : ℕ) (t : Timeline) (pending : List Event) (outgoing :
     routers = λ q ours. record {
       known = (whole.routers q ours).known;
       within = let k = (whole.routers q ours).within in let l = length-set s.timelines (place s r) t in omega arith;
-      net = each_timeline (λ p t. t.net ≡ s.case.net) net (λ p h. (whole.routers p h).net) q ours;
+      net = each_timeline (λ p t. t.net ≡ s.terms.case.net) net (λ p h. (whole.routers p h).net) q ours;
       node = each_timeline (λ p t. t.node ≡ p) node (λ p h. (whole.routers p h).node) q ours;
       done = each_timeline (λ p t. t.done ≤ s.bound) done (λ p h. (whole.routers p h).done) q ours;
-      case = each_timeline (λ p t. t.case ≡ s.case) case (λ p h. (whole.routers p h).case) q ours;
-      retains = each_timeline (λ p t. t.retains ≡ s.retains) retains (λ p h. (whole.routers p h).retains) q ours;
+      case = each_timeline (λ p t. t.case ≡ s.terms.case) case (λ p h. (whole.routers p h).case) q ours;
+      retains = each_timeline (λ p t. t.retains ≡ s.terms.retains) retains (λ p h. (whole.routers p h).retains) q ours;
     };
     pending = suit;
     held = rising;
@@ -104,19 +104,19 @@ read_same s r t pending outgoing held whole mine read none same =
 
 -- one of its routers, as its history leaves it
 pub router_known : (s : Shard) (r : ℕ) → IsSoundShard s → owns s r ≡ true
-    → router_of (timeline s r) ≡ record { net = s.case.net; node = r; state = state (simulation s.case) r ((shard_core 0 s).history r) }
+    → router_of (timeline s r) ≡ record { net = s.terms.case.net; node = r; state = state (simulation s.terms.case) r ((shard_core 0 s).history r) }
 router_known s r whole mine =
     let at = whole.routers r mine in
     let here : (shard_core 0 s).history r ≡ history (timeline s r) = rw mine refl in
     λ i. record {
       net = at.net i;
       node = at.node i;
-      state = ((λ j. known (at.net j) (at.node j) (history (timeline s r))) ∙ (known_state s.case r (history (timeline s r)) ∙ ap (state (simulation s.case) r) (sym here))) i;
+      state = ((λ j. known (at.net j) (at.node j) (history (timeline s r))) ∙ (known_state s.terms.case r (history (timeline s r)) ∙ ap (state (simulation s.terms.case) r) (sym here))) i;
     }
 
 -- and when its path changed last
 pub change_known : (s : Shard) (r : ℕ) → IsSoundShard s → owns s r ≡ true
-    → last_change_at (timeline s r).net (timeline s r).node (history (timeline s r)) ≡ last_change_at s.case.net r ((shard_core 0 s).history r)
+    → last_change_at (timeline s r).net (timeline s r).node (history (timeline s r)) ≡ last_change_at s.terms.case.net r ((shard_core 0 s).history r)
 change_known s r whole mine =
     let at = whole.routers r mine in
     let here : (shard_core 0 s).history r ≡ history (timeline s r) = rw mine refl in

@@ -71,15 +71,15 @@ is_ahead (x ∷ ahead) past done e h all late = omega arith
 module _ (s : Shard) (r : ℕ) (whole : IsSoundShard s) (mine : owns s r ≡ true) where
   -- what the timeline tells as sent is what the machine sends
   pub same_sends : (e : Event) (older : List Event) → e.dst ≡ r
-      → sends_after (timeline s r) older e ≡ (effect s.case.net e.dst (state (simulation s.case) r older) e).sends
+      → sends_after (timeline s r) older e ≡ (effect s.terms.case.net e.dst (state (simulation s.terms.case) r older) e).sends
   same_sends e older home =
       let own = whole.routers r mine in
-      let knows : known (timeline s r).net (timeline s r).node older ≡ state (simulation s.case) r older =
-      (λ i. known (own.net i) (own.node i) older) ∙ known_state s.case r older in
+      let knows : known (timeline s r).net (timeline s r).node older ≡ state (simulation s.terms.case) r older =
+      (λ i. known (own.net i) (own.node i) older) ∙ known_state s.terms.case r older in
       λ i. (effect (own.net i) ((own.node ∙ sym home) i) (knows i) e).sends
 
   pub core_undone : (stop : ℕ) (e : Event) (older : List Event) → e.dst ≡ r
-      → shard_core stop (undone_at s r e older) ≡ after_undoing (simulation s.case) (shard_core stop s) r e (older ++ (timeline s r).past)
+      → shard_core stop (undone_at s r e older) ≡ after_undoing (simulation s.terms.case) (shard_core stop s) r e (older ++ (timeline s r).past)
   core_undone stop e older home =
       let t : Timeline = record (timeline s r) { ahead = older } in
       let next = undone_at s r e older in
@@ -91,18 +91,18 @@ module _ (s : Shard) (r : ℕ) (whole : IsSoundShard s) (mine : owns s r ≡ tru
         history = histories i;
         pending = next.pending;
         kept = s.kept;
-        flight = s.outgoing ++ sent_back (simulation s.case) s.cancel (same_sends e (older ++ (timeline s r).past) home i);
-        held = held_back (simulation s.case) s.cancel (same_sends e (older ++ (timeline s r).past) home i) s.held;
+        flight = s.outgoing ++ sent_back (simulation s.terms.case) s.terms.cancel (same_sends e (older ++ (timeline s r).past) home i);
+        held = held_back (simulation s.terms.case) s.terms.cancel (same_sends e (older ++ (timeline s r).past) home i) s.held;
         done = dones i;
         past = pasts i;
         room = rooms i;
         bound = s.bound;
         stop = stop;
-        cancel = s.cancel;
+        cancel = s.terms.cancel;
       }
 
   pub core_handled : (stop : ℕ) (e : Event) → e.dst ≡ r
-      → shard_core stop (handled_at s r e) ≡ after_handling (simulation s.case) (shard_core stop s) r e
+      → shard_core stop (handled_at s r e) ≡ after_handling (simulation s.terms.case) (shard_core stop s) r e
   core_handled stop e home =
       let t : Timeline = record (timeline s r) { ahead = e ∷ (timeline s r).ahead } in
       let next = handled_at s r e in
@@ -112,25 +112,25 @@ module _ (s : Shard) (r : ℕ) (whole : IsSoundShard s) (mine : owns s r ≡ tru
       let pasts = read_same s r t next.pending next.outgoing next.held whole mine (λ (t : Timeline). length t.past) 0 refl in
       let rooms = read_same s r t next.pending next.outgoing next.held whole mine (λ (t : Timeline). t.room) OPENING_ROOM refl in
       let sends =
-      same_sends e (history (timeline s r)) home ∙ ap (λ h. (effect s.case.net e.dst (state (simulation s.case) r h) e).sends) (sym here) in
+      same_sends e (history (timeline s r)) home ∙ ap (λ h. (effect s.terms.case.net e.dst (state (simulation s.terms.case) r h) e).sends) (sym here) in
       λ i. record {
         history = (histories ∙ ap (λ h. put (shard_core stop s).history r (e ∷ h)) (sym here)) i;
         pending = next.pending;
         kept = s.kept;
-        flight = s.outgoing ++ map (signed true) (to_send (simulation s.case) (sends i) s.held);
-        held = still_held (simulation s.case) (sends i) s.held;
+        flight = s.outgoing ++ map (signed true) (to_send (simulation s.terms.case) (sends i) s.held);
+        held = still_held (simulation s.terms.case) (sends i) s.held;
         done = dones i;
         past = pasts i;
         room = rooms i;
         bound = s.bound;
         stop = stop;
-        cancel = s.cancel;
+        cancel = s.terms.cancel;
       }
 
   -- an undo that is not refused is the machine's
   pub undone : (stop : ℕ) (t : Shard) → IsUndone r s t → told_ok ≡ result_and (undoing stop s r) told_ok → undoing stop s r ≡ Ok (shard_core stop t)
   undone stop t h told =
-      let m = simulation s.case in
+      let m = simulation s.terms.case in
       let e = h.0 in
       let older = h.1 ++ (timeline s r).past in
       let newest : history (timeline s r) ≡ e ∷ older = ap (λ ahead. ahead ++ (timeline s r).past) h.2 in
@@ -150,7 +150,7 @@ module _ (s : Shard) (r : ℕ) (whole : IsSoundShard s) (mine : owns s r ≡ tru
   undo_told : (stop : ℕ) (e : Event) → slice_get (history (timeline s r)) 0 ≡ Some e
       → result_and (undoing stop s r) told_ok ≡ (if nat_lt e.time (timeline s r).done || nat_lt e.time s.bound then Err Committed else told_ok)
   undo_told stop e first =
-      let m = simulation s.case in
+      let m = simulation s.terms.case in
       let older = drop 1 (history (timeline s r)) in
       let newest : history (timeline s r) ≡ e ∷ older = first_is (history (timeline s r)) e first in
       let here : (shard_core stop s).history r ≡ history (timeline s r) = rw mine refl in
@@ -177,8 +177,8 @@ module _ (s : Shard) (r : ℕ) (whole : IsSoundShard s) (mine : owns s r ≡ tru
       sym (undo_told stop e first ∙ in_time (nat_lt e.time (timeline s r).done) (nat_lt e.time s.bound) done bound)
 
   -- an event that suits a router is for it
-  own_event : (e : Event) → suits s.case.net r e ≡ true → e.dst ≡ r
-  own_event e h = eqb-true e.dst r (and_parts (e.dst == r) (body_suits s.case.net r e e.body) h).0
+  own_event : (e : Event) → suits s.terms.case.net r e ≡ true → e.dst ≡ r
+  own_event e h = eqb-true e.dst r (and_parts (e.dst == r) (body_suits s.terms.case.net r e e.body) h).0
 
   -- as many events are not committed as it can undo
   pub ahead_is : (stop : ℕ) → count_ahead (shard_core stop s) r ≡ length (timeline s r).ahead
@@ -196,15 +196,15 @@ module _ (s : Shard) (r : ℕ) (whole : IsSoundShard s) (mine : owns s r ≡ tru
   -- what handling e leads to, where its timeline tells nothing against it
   abbrev rest_of : ℕ → Event → Result (Core Event) Refusal
   rest_of stop e =
-      if (simulation s.case).full (state (simulation s.case) r (history (timeline s r))) e
+      if (simulation s.terms.case).full (state (simulation s.terms.case) r (history (timeline s r))) e
       then Err CounterFull
-      else Ok (after_handling (simulation s.case) (shard_core stop s) r e)
+      else Ok (after_handling (simulation s.terms.case) (shard_core stop s) r e)
 
   -- what the first pending event leads to, where it is before the stop
-  opened : (stop : ℕ) (e : Event) → first_pending (simulation s.case) (shard_core stop s) r ≡ Some e → e.time < stop
-      → handling stop s r ≡ checked (is_newest (simulation s.case) e (history (timeline s r))) (nat_lt (length (timeline s r).ahead) (timeline s r).room) (rest_of stop e)
+  opened : (stop : ℕ) (e : Event) → first_pending (simulation s.terms.case) (shard_core stop s) r ≡ Some e → e.time < stop
+      → handling stop s r ≡ checked (is_newest (simulation s.terms.case) e (history (timeline s r))) (nat_lt (length (timeline s r).ahead) (timeline s r).room) (rest_of stop e)
   opened stop e first soon =
-      let m = simulation s.case in
+      let m = simulation s.terms.case in
       let here : (shard_core stop s).history r ≡ history (timeline s r) = rw mine refl in
       let has_room = nat_lt (count_ahead (shard_core stop s) r) ((shard_core stop s).room r) in
       ap (λ b. if b then handle m (shard_core stop s) r (first_pending m (shard_core stop s) r) else Err NotMine) mine
@@ -215,36 +215,36 @@ module _ (s : Shard) (r : ℕ) (whole : IsSoundShard s) (mine : owns s r ≡ tru
       ∙ ap₂ (λ n k. checked (is_newest m e (history (timeline s r))) (nat_lt n k) (rest_of stop e)) (ahead_is stop) (room_is stop))))
 
   -- where its timeline tells why not, that is why
-  pub is_held_off : (stop : ℕ) (e : Event) → first_pending (simulation s.case) (shard_core stop s) r ≡ Some e → e.time < stop
+  pub is_held_off : (stop : ℕ) (e : Event) → first_pending (simulation s.terms.case) (shard_core stop s) r ≡ Some e → e.time < stop
       → (f : Refusal) → may_handle s r e ≡ Err f → handling stop s r ≡ Err f
   is_held_off stop e first soon f h =
       opened stop e first soon
-      ∙ checked-err (is_newest (simulation s.case) e (history (timeline s r))) (nat_lt (length (timeline s r).ahead) (timeline s r).room) (rest_of stop e) f h
+      ∙ checked-err (is_newest (simulation s.terms.case) e (history (timeline s r))) (nat_lt (length (timeline s r).ahead) (timeline s r).room) (rest_of stop e) f h
 
   -- whether a counter is full, as the router tells it
-  same_full : (e : Event) → e.dst ≡ r → is_full_at (router_of (timeline s r)) e ≡ (simulation s.case).full (state (simulation s.case) r (history (timeline s r))) e
+  same_full : (e : Event) → e.dst ≡ r → is_full_at (router_of (timeline s r)) e ≡ (simulation s.terms.case).full (state (simulation s.terms.case) r (history (timeline s r))) e
   same_full e home =
       let own = whole.routers r mine in
       let h = history (timeline s r) in
-      let knows : known (timeline s r).net (timeline s r).node h ≡ state (simulation s.case) r h =
-      (λ i. known (own.net i) (own.node i) h) ∙ known_state s.case r h in
+      let knows : known (timeline s r).net (timeline s r).node h ≡ state (simulation s.terms.case) r h =
+      (λ i. known (own.net i) (own.node i) h) ∙ known_state s.terms.case r h in
       λ i. is_full (own.net i) ((own.node ∙ sym home) i) (knows i) e
 
   undoubled : (stop : ℕ) (e : Event) → HandlesNext stop s r e
-      → handling stop s r ≡ (if is_full_at (router_of (timeline s r)) e then Err CounterFull else Ok (after_handling (simulation s.case) (shard_core stop s) r e))
+      → handling stop s r ≡ (if is_full_at (router_of (timeline s r)) e then Err CounterFull else Ok (after_handling (simulation s.terms.case) (shard_core stop s) r e))
   undoubled stop e next =
-      let m = simulation s.case in
+      let m = simulation s.terms.case in
       opened stop e next.first next.soon
       ∙ (checked-ok (is_newest m e (history (timeline s r))) (nat_lt (length (timeline s r).ahead) (timeline s r).room) (rest_of stop e) next.free
       ∙ ap (λ b. if b then Err CounterFull else Ok (after_handling m (shard_core stop s) r e)) (sym (same_full e (own_event e next.suit))))
 
   pub is_stuck : (stop : ℕ) (e : Event) → HandlesNext stop s r e → is_full_at (router_of (timeline s r)) e ≡ true → handling stop s r ≡ Err CounterFull
   is_stuck stop e next full =
-      undoubled stop e next ∙ ap (λ b. if b then Err CounterFull else Ok (after_handling (simulation s.case) (shard_core stop s) r e)) full
+      undoubled stop e next ∙ ap (λ b. if b then Err CounterFull else Ok (after_handling (simulation s.terms.case) (shard_core stop s) r e)) full
 
   pub goes_on : (stop : ℕ) (e : Event) → HandlesNext stop s r e → (is_full_at (router_of (timeline s r)) e ≡ true → ⊥)
       → handling stop s r ≡ Ok (shard_core stop (handled_at s r e))
   goes_on stop e next room =
       undoubled stop e next
-      ∙ (ap (λ b. if b then Err CounterFull else Ok (after_handling (simulation s.case) (shard_core stop s) r e)) (false_from_ne_true (is_full_at (router_of (timeline s r)) e) room)
+      ∙ (ap (λ b. if b then Err CounterFull else Ok (after_handling (simulation s.terms.case) (shard_core stop s) r e)) (false_from_ne_true (is_full_at (router_of (timeline s r)) e) room)
       ∙ ap (λ c. Ok c) (sym (core_handled stop e (own_event e next.suit))))

@@ -10,7 +10,7 @@ use Rattle.tw_shard.proofs.Shares.{read_put, read_same}
 use Rattle.tw_shard.proofs.Steps.{room_is}
 
 module _ (s : Shard) (r : ℕ) (whole : IsSoundShard s) (mine : owns s r ≡ true) where
-  core_widened : (stop : ℕ) → shard_core stop (widened_at s r) ≡ with_room (simulation s.case) (shard_core stop s) r
+  core_widened : (stop : ℕ) → shard_core stop (widened_at s r) ≡ with_room (simulation s.terms.case) (shard_core stop s) r
   core_widened stop =
       let t : Timeline = record (timeline s r) { room = 2 * (timeline s r).room } in
       let histories = read_same s r t s.pending s.outgoing s.held whole mine history [] refl in
@@ -30,10 +30,10 @@ module _ (s : Shard) (r : ℕ) (whole : IsSoundShard s) (mine : owns s r ≡ tru
         room = rooms i;
         bound = s.bound;
         stop = stop;
-        cancel = s.cancel;
+        cancel = s.terms.cancel;
       }
 
   -- what the machine does where the router is one of its own
   pub widens : (stop : ℕ) → widening stop s r ≡ Ok (shard_core stop (widened_at s r))
   widens stop =
-      ap (λ b. if b then Ok (with_room (simulation s.case) (shard_core stop s) r) else Err NotMine) mine ∙ ap (λ c. Ok c) (sym (core_widened stop))
+      ap (λ b. if b then Ok (with_room (simulation s.terms.case) (shard_core stop s) r) else Err NotMine) mine ∙ ap (λ c. Ok c) (sym (core_widened stop))

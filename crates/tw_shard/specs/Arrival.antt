@@ -20,12 +20,12 @@ abbrev pub refusing : Shard → Event → Result (Unit {0}) Rejection
 refusing s e =
     if owns s e.dst
     then (if nat_lt e.time s.bound then Err (Late s.bound)
-    else (if suits s.case.net e.dst e then Ok tt else Err Foreign))
+    else (if suits s.terms.case.net e.dst e then Ok tt else Err Foreign))
     else Err NotMine
 
 -- a message comes to a shard: the machine of its routers afterwards, or why it is refused
 abbrev pub receiving : ℕ → Shard → Signed Event → Result (Core Event) Rejection
-receiving stop s x = result_and (refusing s x.event) (Ok (after_arrival (simulation s.case) (shard_core stop s) x))
+receiving stop s x = result_and (refusing s x.event) (Ok (after_arrival (simulation s.terms.case) (shard_core stop s) x))
 
 -- whether an event that was handled, the last one, is undone for the first one
 abbrev pub rolls : Reach → Event → Event → Bool

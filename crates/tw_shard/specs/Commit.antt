@@ -39,4 +39,4 @@ committed_at s r = with_timeline s r (committed_to s.bound (timeline s r))
 
 -- the events of router r before the bound are committed
 abbrev pub committing : ℕ → Shard → ℕ → Result (Core Event) Refusal
-committing stop s r = at_own s r (Ok (with_commit (simulation s.case) (shard_core stop s) r))
+committing stop s r = at_own s r (Ok (with_commit (simulation s.terms.case) (shard_core stop s) r))

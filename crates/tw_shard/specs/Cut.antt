@@ -42,10 +42,10 @@ pub record IsShardAt (case : Case) (who : ℕ → ℕ) (time k : ℕ) (retains :
   pub outgoing : s.outgoing ≡ []
   pub held : s.held ≡ []
   pub bound : s.bound ≡ time
-  pub case_is : s.case ≡ case
-  pub worker : s.worker ≡ k
-  pub retains_are : s.retains ≡ retains
-  pub cancel_is : s.cancel ≡ cancel
+  pub case_is : s.terms.case ≡ case
+  pub worker : s.terms.worker ≡ k
+  pub retains_are : s.terms.retains ≡ retains
+  pub cancel_is : s.terms.cancel ≡ cancel
 
 -- a router, and what is told of its events, are those of a timeline
 pub record IsRouterOf (t : Timeline) (x : RouterAt) : Type 0 where

@@ -2,15 +2,17 @@
 use Rattle.std.specs.Prelude.{ℕ, ◌≡◌, ◌≤◌, true}
 use Rattle.std.specs.List.{AllByRecursion}
 use Rattle.tw_shard.specs.declared.shard.Shard.TheInside.{Inside}
-use Rattle.tw_shard.specs.Shard.{IsSoundShard, Shard, owns, timeline}
+use Rattle.tw_shard.specs.Shard.{IsSoundShard, Shard, Terms, owns, timeline}
 use Rattle.tw_shard.specs.Timeline.{history}
+
+-- the terms that the fields stand for
+abbrev pub terms_of : Inside → Terms
+terms_of a = record { case = a.case.now; worker = a.worker; workers = a.workers; retains = a.retains; cancel = a.cancel }
 
 -- the shard that the fields stand for
 abbrev pub shard_of : Inside → Shard
 shard_of a = record {
-  case = a.case.now;
-  worker = a.worker;
-  workers = a.workers;
+  terms = terms_of a;
   routers = a.roster.routers;
   timelines = a.timelines.items;
   pending = a.pending.events;
@@ -18,8 +20,6 @@ shard_of a = record {
   outgoing = a.outgoing.items;
   held = a.held.events;
   bound = a.bound;
-  retains = a.retains;
-  cancel = a.cancel;
 }
 
 -- no event that its routers have handled and not undone is after this time

@@ -6,14 +6,6 @@ use Rattle.tw_ordered.specs.Queue.{for_others, for_router}
 use Rattle.tw_shard.specs.Shard.{Shard, owns, timeline}
 use Rattle.tw_sim.specs.Ordered.{insert_all}
 
--- the later shard has the same case, is the same worker's, retains as much, and takes back what undone events have sent at the same time
-pub record HasSameTerms (s t : Shard) : Type 0 where
-  pub case : t.case ≡ s.case
-  pub worker : t.worker ≡ s.worker
-  pub workers : t.workers ≡ s.workers
-  pub retains : t.retains ≡ s.retains
-  pub cancel : t.cancel ≡ s.cancel
-
 -- router r has moved out of s, which is t now: what waits for it and what is held for it is gone, and all else stays
 pub record HasMovedOut (r : ℕ) (s t : Shard) : Type 0 where
   pub routers : (q : ℕ) → owns t q ≡ (owns s q && not (q == r))
@@ -23,7 +15,7 @@ pub record HasMovedOut (r : ℕ) (s t : Shard) : Type 0 where
   pub held : t.held ≡ sent_by_others r s.held
   pub outgoing : t.outgoing ≡ s.outgoing
   pub bound : t.bound ≡ s.bound
-  pub terms : HasSameTerms s t
+  pub terms : t.terms ≡ s.terms
 
 -- router r has moved from s into t, which is u now, with its timeline, what waits for it and what is held for it, and all else stays
 pub record HasMovedIn (r : ℕ) (s t u : Shard) : Type 0 where
@@ -36,4 +28,4 @@ pub record HasMovedIn (r : ℕ) (s t u : Shard) : Type 0 where
   pub outgoing : u.outgoing ≡ t.outgoing
   -- it knows the greater of the two bounds
   pub bound : u.bound ≡ max t.bound s.bound
-  pub terms : HasSameTerms t u
+  pub terms : u.terms ≡ t.terms

@@ -23,11 +23,20 @@ use Rattle.tw_sim.specs.Rising.{IsRising}
 use Rattle.tw_sim.specs.Owners.{owner}
 use Rattle.tw_sim.specs.Simulation.{IsFalling, below}
 
--- the routers of one of so many workers, with what waits for them and what they have sent
-pub record Shard : Type 0 where
+-- on what terms a worker has its routers: these stay, whatever it does
+pub record Terms : Type 0 where
   pub case : Case
+  -- which worker it is, from 0, of how many
   pub worker : ℕ
   pub workers : ℕ
+  -- whether its routers retain their committed events
+  pub retains : Bool
+  -- when what an undone event has sent is taken back
+  pub cancel : Cancel
+
+-- the routers of one worker, with what waits for them and what they have sent
+pub record Shard : Type 0 where
+  pub terms : Terms
   -- its routers, and the timeline of each
   pub routers : List ℕ
   pub timelines : List Timeline
@@ -39,10 +48,6 @@ pub record Shard : Type 0 where
   -- what events that were undone had sent, and what was neither sent again nor taken back
   pub held : List Event
   pub bound : ℕ
-  -- whether its routers retain their committed events
-  pub retains : Bool
-  -- when what an undone event has sent is taken back
-  pub cancel : Cancel
 
 -- whether r is one of its routers
 abbrev pub owns : Shard → ℕ → Bool
@@ -72,9 +77,7 @@ no_timeline = record {
 -- what stands where there is no shard
 abbrev pub no_shard : Shard
 no_shard = record {
-  case = no_case;
-  worker = 0;
-  workers = 0;
+  terms = record { case = no_case; worker = 0; workers = 0; retains = true; cancel = Aggressive };
   routers = [];
   timelines = [];
   pending = [];
@@ -82,8 +85,6 @@ no_shard = record {
   outgoing = [];
   held = [];
   bound = 0;
-  retains = true;
-  cancel = Aggressive;
 }
 
 -- router r, which is one of its own
@@ -103,7 +104,7 @@ shard_core stop s = record {
   room = λ r. if owns s r then (timeline s r).room else OPENING_ROOM;
   bound = s.bound;
   stop = stop;
-  cancel = s.cancel;
+  cancel = s.terms.cancel;
 }
 
 -- a machine of the routers of worker k, by the worker of each router, which has handled nothing: the opening events for them are pending
@@ -136,10 +137,7 @@ pub record IsOpeningBy (case : Case) (who : ℕ → ℕ) (k workers : ℕ) (reta
   pub order : s.routers ≡ filter (λ r. who r == k) (range_with_len 0 case.net.nodes)
   -- and they have handled nothing
   pub routers : (r : ℕ) → owns s r ≡ true → timeline s r ≡ opening_timeline case retains r
-  pub case_is : s.case ≡ case
-  pub worker : s.worker ≡ k
-  pub count : s.workers ≡ workers
-  pub retains_are : s.retains ≡ retains
+  pub terms : s.terms ≡ record { case = case; worker = k; workers = workers; retains = retains; cancel = cancel }
 
 -- and where routers are dealt out in turn
 abbrev pub IsOpeningShard : Case → ℕ → ℕ → Bool → Cancel → Shard → Type 0
@@ -151,7 +149,7 @@ at_own s r outcome = if owns s r then outcome else Err NotMine
 
 -- router r handles its first pending event
 abbrev pub handling : ℕ → Shard → ℕ → Result (Core Event) Refusal
-handling stop s r = let m = simulation s.case in at_own s r (handle m (shard_core stop s) r (first_pending m (shard_core stop s) r))
+handling stop s r = let m = simulation s.terms.case in at_own s r (handle m (shard_core stop s) r (first_pending m (shard_core stop s) r))
 
 -- the router of the least of all pending events handles it, where that one is before the stop
 abbrev pub handling_least : ℕ → Shard → Result (Core Event) Refusal
@@ -160,24 +158,20 @@ handling_least stop s =
 
 -- router r undoes the newest event of its history
 abbrev pub undoing : ℕ → Shard → ℕ → Result (Core Event) Refusal
-undoing stop s r = let m = simulation s.case in at_own s r (undo m (shard_core stop s) r ((shard_core stop s).history r))
+undoing stop s r = let m = simulation s.terms.case in at_own s r (undo m (shard_core stop s) r ((shard_core stop s).history r))
 
 -- what router r holds is taken back
 abbrev pub releasing : ℕ → Shard → ℕ → Result (Core Event) Refusal
-releasing stop s r = at_own s r (Ok (with_release (simulation s.case) (shard_core stop s) r))
+releasing stop s r = at_own s r (Ok (with_release (simulation s.terms.case) (shard_core stop s) r))
 
 -- router r has twice the room
 abbrev pub widening : ℕ → Shard → ℕ → Result (Core Event) Refusal
-widening stop s r = at_own s r (Ok (with_room (simulation s.case) (shard_core stop s) r))
+widening stop s r = at_own s r (Ok (with_room (simulation s.terms.case) (shard_core stop s) r))
 
--- the later shard has the same case and the same routers, is the same worker's, retains as much, and takes back what undone events have sent at the same time
+-- the later shard has the same routers, on the same terms
 pub record IsSameShare (s t : Shard) : Type 0 where
-  pub case : t.case ≡ s.case
-  pub worker : t.worker ≡ s.worker
-  pub workers : t.workers ≡ s.workers
+  pub terms : t.terms ≡ s.terms
   pub routers : t.routers ≡ s.routers
-  pub retains : t.retains ≡ s.retains
-  pub cancel : t.cancel ≡ s.cancel
 
 -- with another timeline of router r
 abbrev pub with_timeline : Shard → ℕ → Timeline → Shard
@@ -196,8 +190,8 @@ abbrev pub handled_at : Shard → ℕ → Event → Shard
 handled_at s r e = record s {
   timelines = slice_set s.timelines (place s r) (record (timeline s r) { ahead = e ∷ (timeline s r).ahead });
   pending = take_out event_same e s.pending;
-  outgoing = s.outgoing ++ map (signed true) (to_send (simulation s.case) (sends_of s r (history (timeline s r)) e) s.held);
-  held = still_held (simulation s.case) (sends_of s r (history (timeline s r)) e) s.held;
+  outgoing = s.outgoing ++ map (signed true) (to_send (simulation s.terms.case) (sends_of s r (history (timeline s r)) e) s.held);
+  held = still_held (simulation s.terms.case) (sends_of s r (history (timeline s r)) e) s.held;
 }
 
 -- router r has undone e, its newest event, of which older are those that it can undo as well: what e had sent is taken back, or held
@@ -205,21 +199,21 @@ abbrev pub undone_at : Shard → ℕ → Event → List Event → Shard
 undone_at s r e older = record s {
   timelines = slice_set s.timelines (place s r) (record (timeline s r) { ahead = older });
   pending = insert event_before e s.pending;
-  outgoing = s.outgoing ++ sent_back (simulation s.case) s.cancel (sends_of s r (older ++ (timeline s r).past) e);
-  held = held_back (simulation s.case) s.cancel (sends_of s r (older ++ (timeline s r).past) e) s.held;
+  outgoing = s.outgoing ++ sent_back (simulation s.terms.case) s.terms.cancel (sends_of s r (older ++ (timeline s r).past) e);
+  held = held_back (simulation s.terms.case) s.terms.cancel (sends_of s r (older ++ (timeline s r).past) e) s.held;
 }
 
 -- what is held for router r is taken back
 abbrev pub released_at : Shard → ℕ → Shard
 released_at s r = record s {
-  outgoing = s.outgoing ++ map (signed false) (from (simulation s.case) r s.held);
-  held = from_others (simulation s.case) r s.held;
+  outgoing = s.outgoing ++ map (signed false) (from (simulation s.terms.case) r s.held);
+  held = from_others (simulation s.terms.case) r s.held;
 }
 
 -- whether router r may handle e, its first pending event, if no counter is full; or why not
 abbrev pub may_handle : Shard → ℕ → Event → Result (Unit {0}) Refusal
 may_handle s r e =
-    if is_newest (simulation s.case) e (history (timeline s r)) then Err Double
+    if is_newest (simulation s.terms.case) e (history (timeline s r)) then Err Double
     else (if nat_lt (length (timeline s r).ahead) (timeline s r).room then Ok tt
     else Err AheadFull)
 
@@ -228,13 +222,13 @@ pub record HandlesNext (stop : ℕ) (s : Shard) (r : ℕ) (e : Event) : Type 0 w
   -- r is one of its own
   pub own : owns s r ≡ true
   -- e is its first pending event
-  pub first : first_pending (simulation s.case) (shard_core stop s) r ≡ Some e
+  pub first : first_pending (simulation s.terms.case) (shard_core stop s) r ≡ Some e
   -- before the stop
   pub soon : e.time < stop
   -- it is not the event that r handled last, and r has room for it
   pub free : may_handle s r e ≡ Ok tt
   -- and e suits it
-  pub suit : suits s.case.net r e ≡ true
+  pub suit : suits s.terms.case.net r e ≡ true
 
 -- router r has undone its newest event
 abbrev pub IsUndone : ℕ → Shard → Shard → Type 0
@@ -242,25 +236,25 @@ IsUndone r s t = (e : Event) × (older : List Event) × ((timeline s r).ahead �
 
 -- a router of the shard's is one of the case's, and there is a timeline for it, whose latest commit was not beyond the bound
 pub record HasTimeline (s : Shard) (r : ℕ) : Type 0 where
-  pub known : r < s.case.net.nodes
+  pub known : r < s.terms.case.net.nodes
   pub within : place s r < length s.timelines
-  pub net : (timeline s r).net ≡ s.case.net
+  pub net : (timeline s r).net ≡ s.terms.case.net
   pub node : (timeline s r).node ≡ r
   pub done : (timeline s r).done ≤ s.bound
-  pub case : (timeline s r).case ≡ s.case
-  pub retains : (timeline s r).retains ≡ s.retains
+  pub case : (timeline s r).case ≡ s.terms.case
+  pub retains : (timeline s r).retains ≡ s.terms.retains
 
 -- the history of router r is in order, and before the bound it is that of the one-thread run
 pub record FollowsRun (s : Shard) (r : ℕ) : Type 0 where
-  pub falling : IsFalling (simulation s.case) ((shard_core 0 s).history r)
-  pub run : below (simulation s.case) s.bound ((shard_core 0 s).history r) ≡ own_run s.case r s.bound
+  pub falling : IsFalling (simulation s.terms.case) ((shard_core 0 s).history r)
+  pub run : below (simulation s.terms.case) s.bound ((shard_core 0 s).history r) ≡ own_run s.terms.case r s.bound
 
 -- each of its routers is there once, what is pending suits its receiver, and what is held is in order
 pub record IsSoundShard (s : Shard) : Type 0 where
-  pub case : IsCase s.case
-  pub worker : s.worker < s.workers
+  pub case : IsCase s.terms.case
+  pub worker : s.terms.worker < s.terms.workers
   pub apart : StandOnce s.routers
   pub long : length s.timelines ≡ length s.routers
   pub routers : (r : ℕ) → owns s r ≡ true → HasTimeline s r
-  pub pending : AllByRecursion (λ e. suits s.case.net e.dst e ≡ true) s.pending
+  pub pending : AllByRecursion (λ e. suits s.terms.case.net e.dst e ≡ true) s.pending
   pub held : IsRising event_before event_same s.held

@@ -33,12 +33,12 @@ committed_in case ss r = committed (simulation case) (shard_core 0 (shard_for ss
 -- each router of the case is at a shard of it
 pub record HaveAll (case : Case) (ss : List Shard) : Type 0 where
   pub some : 0 < length ss
-  pub cases : (r : ℕ) → r < case.net.nodes → (shard_for ss r).case ≡ case
+  pub cases : (r : ℕ) → r < case.net.nodes → (shard_for ss r).terms.case ≡ case
   pub own : (r : ℕ) → r < case.net.nodes → owns (shard_for ss r) r ≡ true
 
 -- the routers retain their committed events, and their histories are in order
 pub record RetainAll (case : Case) (ss : List Shard) : Type 0 where
-  pub retains : (r : ℕ) → r < case.net.nodes → (shard_for ss r).retains ≡ true
+  pub retains : (r : ℕ) → r < case.net.nodes → (shard_for ss r).terms.retains ≡ true
   pub falling : (r : ℕ) → IsFalling (simulation case) (history_in ss r)
 
 -- the committed events of all routers, in the order of events

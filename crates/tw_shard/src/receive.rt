@@ -40,7 +40,7 @@ impl<'a> Shard<'a> {
             ↔ (receiving stop self.old message ≡ Err f) }
         ensures back { IfErr result (λ e. e.message ≡ message) }
         ensures unchanged { (f : ARejection) → IsErrOf result (record { message = message; why = or_memory.Fault f }) → self.new ≡ self.old }
-        ensures memory { OnErr result ((stop : ℕ) → IsRolledBack (simulation self.old.case) message.event (shard_core stop self.old) (shard_core stop self.new)) }
+        ensures memory { OnErr result ((stop : ℕ) → IsRolledBack (simulation self.old.terms.case) message.event (shard_core stop self.old) (shard_core stop self.new)) }
         ensures same { IsSameShare self.old self.new }
     {
         if let Err(rejection) = self.may_receive(&message.event) {
@@ -65,7 +65,7 @@ impl<'a> Shard<'a> {
     pub fn receive_welcome(&mut self, message: &Signed<Event>) -> Result<(), AllocError>
         requires { refusing self.old message.now.event ≡ Ok tt }
         ensures ok { (stop : ℕ) → OnOk result (receiving stop self.old message.now ≡ Ok (shard_core stop self.new)) }
-        ensures memory { OnErr result ((stop : ℕ) → IsRolledBack (simulation self.old.case) message.now.event (shard_core stop self.old) (shard_core stop self.new)) }
+        ensures memory { OnErr result ((stop : ℕ) → IsRolledBack (simulation self.old.terms.case) message.now.event (shard_core stop self.old) (shard_core stop self.new)) }
         ensures same { IsSameShare self.old self.new }
     {
         self.take_in(message)?;
@@ -77,7 +77,7 @@ impl<'a> Shard<'a> {
         ensures value { result ≡ refusing self.now event.now }
         ensures own { OnOk result (owns self.now event.now.dst ≡ true) }
         ensures late { OnOk result (self.now.bound ≤ event.now.time) }
-        ensures suit { OnOk result (suits self.now.case.net event.now.dst event.now ≡ true) }
+        ensures suit { OnOk result (suits self.now.terms.case.net event.now.dst event.now ≡ true) }
     {
         if !self.owns(event.dst) {
             return Err(Rejection::NotMine);
@@ -98,9 +98,9 @@ impl<'a> Shard<'a> {
     fn take_in(&mut self, message: &Signed<Event>) -> Result<(), AllocError>
         requires own { owns self.old message.now.event.dst ≡ true }
         requires late { self.old.bound ≤ message.now.event.time }
-        requires suit { suits self.old.case.net message.now.event.dst message.now.event ≡ true }
-        ensures ok { (stop : ℕ) → OnOk result (shard_core stop self.new ≡ after_arrival (simulation self.old.case) (shard_core stop self.old) message.now) }
-        ensures err { OnErr result ((stop : ℕ) → IsRolledBack (simulation self.old.case) message.now.event (shard_core stop self.old) (shard_core stop self.new)) }
+        requires suit { suits self.old.terms.case.net message.now.event.dst message.now.event ≡ true }
+        ensures ok { (stop : ℕ) → OnOk result (shard_core stop self.new ≡ after_arrival (simulation self.old.terms.case) (shard_core stop self.old) message.now) }
+        ensures err { OnErr result ((stop : ℕ) → IsRolledBack (simulation self.old.terms.case) message.now.event (shard_core stop self.old) (shard_core stop self.new)) }
         ensures same { IsSameShare self.old self.new }
     {
         if message.plus {
@@ -116,9 +116,9 @@ impl<'a> Shard<'a> {
     fn arrive(&mut self, event: &Event) -> Result<(), AllocError>
         requires own { owns self.old event.now.dst ≡ true }
         requires late { self.old.bound ≤ event.now.time }
-        requires suit { suits self.old.case.net event.now.dst event.now ≡ true }
-        ensures ok { (stop : ℕ) → OnOk result (shard_core stop self.new ≡ after_message (simulation self.old.case) (shard_core stop self.old) event.now) }
-        ensures err { OnErr result ((stop : ℕ) → IsRolledBack (simulation self.old.case) event.now (shard_core stop self.old) (shard_core stop self.new)) }
+        requires suit { suits self.old.terms.case.net event.now.dst event.now ≡ true }
+        ensures ok { (stop : ℕ) → OnOk result (shard_core stop self.new ≡ after_message (simulation self.old.terms.case) (shard_core stop self.old) event.now) }
+        ensures err { OnErr result ((stop : ℕ) → IsRolledBack (simulation self.old.terms.case) event.now (shard_core stop self.old) (shard_core stop self.new)) }
         ensures same { IsSameShare self.old self.new }
     {
         // Of most messages this is all.
@@ -134,9 +134,9 @@ impl<'a> Shard<'a> {
     fn arrive_late(&mut self, event: &Event) -> Result<(), AllocError>
         requires own { owns self.old event.now.dst ≡ true }
         requires late { self.old.bound ≤ event.now.time }
-        requires suit { suits self.old.case.net event.now.dst event.now ≡ true }
-        ensures ok { (stop : ℕ) → OnOk result (shard_core stop self.new ≡ after_message (simulation self.old.case) (shard_core stop self.old) event.now) }
-        ensures err { OnErr result ((stop : ℕ) → IsRolledBack (simulation self.old.case) event.now (shard_core stop self.old) (shard_core stop self.new)) }
+        requires suit { suits self.old.terms.case.net event.now.dst event.now ≡ true }
+        ensures ok { (stop : ℕ) → OnOk result (shard_core stop self.new ≡ after_message (simulation self.old.terms.case) (shard_core stop self.old) event.now) }
+        ensures err { OnErr result ((stop : ℕ) → IsRolledBack (simulation self.old.terms.case) event.now (shard_core stop self.old) (shard_core stop self.new)) }
         ensures same { IsSameShare self.old self.new }
     {
         if self.take_kept(event) {
@@ -152,8 +152,8 @@ impl<'a> Shard<'a> {
     fn withdraw(&mut self, event: &Event) -> Result<(), AllocError>
         requires own { owns self.old event.now.dst ≡ true }
         requires late { self.old.bound ≤ event.now.time }
-        ensures ok { (stop : ℕ) → OnOk result (shard_core stop self.new ≡ after_antimessage (simulation self.old.case) (shard_core stop self.old) event.now) }
-        ensures err { OnErr result ((stop : ℕ) → IsRolledBack (simulation self.old.case) event.now (shard_core stop self.old) (shard_core stop self.new)) }
+        ensures ok { (stop : ℕ) → OnOk result (shard_core stop self.new ≡ after_antimessage (simulation self.old.terms.case) (shard_core stop self.old) event.now) }
+        ensures err { OnErr result ((stop : ℕ) → IsRolledBack (simulation self.old.terms.case) event.now (shard_core stop self.old) (shard_core stop self.new)) }
         ensures same { IsSameShare self.old self.new }
     {
         if self.take_pending(event) {
@@ -172,9 +172,9 @@ impl<'a> Shard<'a> {
     fn roll_back(&mut self, event: &Event, reach: Reach) -> Result<(), AllocError>
         requires own { owns self.old event.now.dst ≡ true }
         requires late { self.old.bound ≤ event.now.time }
-        ensures ok { (stop : ℕ) → OnOk result (shard_core stop self.new ≡ after_undoing_while (simulation self.old.case) (rolls reach event.now)
+        ensures ok { (stop : ℕ) → OnOk result (shard_core stop self.new ≡ after_undoing_while (simulation self.old.terms.case) (rolls reach event.now)
             event.now.dst ((shard_core stop self.old).history event.now.dst) (shard_core stop self.old)) }
-        ensures undone { (stop : ℕ) → IsRolledBack (simulation self.old.case) event.now (shard_core stop self.old) (shard_core stop self.new) }
+        ensures undone { (stop : ℕ) → IsRolledBack (simulation self.old.terms.case) event.now (shard_core stop self.old) (shard_core stop self.new) }
         ensures kept { self.new.kept ≡ self.old.kept }
         ensures same { IsSameShare self.old self.new }
     {

@@ -141,7 +141,7 @@ impl<'a> Shard<'a> {
 
     /// The worker whose routers it has. Workers are numbered from 0.
     pub fn worker(&self) -> u32
-        ensures { result ≡ self.now.worker }
+        ensures { result ≡ self.now.terms.worker }
     {
         self.worker
     }
@@ -176,14 +176,14 @@ impl<'a> Shard<'a> {
 
     /// Whether its routers retain their committed events, so that these can be read.
     pub fn retains(&self) -> bool
-        ensures { result ≡ self.now.retains }
+        ensures { result ≡ self.now.terms.retains }
     {
         self.retains
     }
 
     /// When what an undone event has sent is taken back.
     pub fn cancel(&self) -> Cancel
-        ensures { result ≡ self.now.cancel }
+        ensures { result ≡ self.now.terms.cancel }
     {
         self.cancel
     }
@@ -200,7 +200,7 @@ impl<'a> Shard<'a> {
     /// The least time, in ticks, of the messages that are held for a router, which had sent them. `None` where there
     /// is none.
     pub fn held_time(&self, router: u32) -> Option<u64>
-        ensures { result ≡ reduce min (map (λ e. e.time) (from (simulation self.now.case) router self.now.held)) }
+        ensures { result ≡ reduce min (map (λ e. e.time) (from (simulation self.now.terms.case) router self.now.held)) }
     {
         self.held.least_time_of(router)
     }
@@ -210,7 +210,7 @@ impl<'a> Shard<'a> {
         requires { owns self.now router ≡ true }
         ensures value { result.now ≡ router_of (timeline self.now router) }
         ensures known { result.now
-            ≡ record { net = self.now.case.net; node = router; state = state (simulation self.now.case) router ((shard_core 0 self.now).history router) } }
+            ≡ record { net = self.now.terms.case.net; node = router; state = state (simulation self.now.terms.case) router ((shard_core 0 self.now).history router) } }
     {
         self.timeline(router).router()
     }
@@ -232,8 +232,8 @@ impl<'a> Shard<'a> {
 
     /// The first pending event of a router.
     fn first_pending(&self, router: u32) -> Option<Event>
-        ensures value { result ≡ first_pending (simulation self.now.case) (shard_core 0 self.now) router }
-        ensures suits { IfSome result (λ e. IsTrue (suits self.now.case.net router e)) }
+        ensures value { result ≡ first_pending (simulation self.now.terms.case) (shard_core 0 self.now) router }
+        ensures suits { IfSome result (λ e. IsTrue (suits self.now.terms.case.net router e)) }
         ensures whole { IsSoundShard self.now }
     {
         self.pending.least_at(router)
@@ -243,7 +243,7 @@ impl<'a> Shard<'a> {
     #[inline(always)]
     pub(crate) fn add_pending(&mut self, event: &Event) -> Result<(), AllocError>
         requires own { owns self.old event.now.dst ≡ true }
-        requires suit { suits self.old.case.net event.now.dst event.now ≡ true }
+        requires suit { suits self.old.terms.case.net event.now.dst event.now ≡ true }
         ensures ok { OnOk result (self.new ≡ record self.old { pending = insert event_before event.now self.old.pending }) }
         ensures err { OnErr result (self.new ≡ self.old) }
     {
@@ -297,7 +297,7 @@ impl<'a> Shard<'a> {
 
     /// The instance whose routers these are.
     pub fn instance(&self) -> &Instance
-        ensures { result.now ≡ self.now.case.net }
+        ensures { result.now ≡ self.now.terms.case.net }
     {
         self.case.instance()
     }

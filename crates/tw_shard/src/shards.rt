@@ -85,9 +85,9 @@ fn committed_by_router(
 /// which retains committed events.
 fn add_committed(shard: &Shard<'_>, router: u32, events: &mut Vec<Event>) -> Result<(), AllocError>
     requires own { owns shard.now router ≡ true }
-    requires retains { shard.now.retains ≡ true }
+    requires retains { shard.now.terms.retains ≡ true }
     ensures { OnOk result (events.new.items ≡ events.old.items
-        ++ take (length (committed (simulation shard.now.case) (shard_core 0 shard.now) router)) (reverse ((shard_core 0 shard.now).history router))) }
+        ++ take (length (committed (simulation shard.now.terms.case) (shard_core 0 shard.now) router)) (reverse ((shard_core 0 shard.now).history router))) }
 {
     let count = shard.committed(router);
     events.reserve(count)?;

@@ -30,12 +30,12 @@ impl<'a> Shard<'a> {
     /// It is refused as `NotMine` where the router is none of the shard's. After a refusal and for want
     /// of memory nothing has changed. Where no event becomes committed, it takes no memory.
     pub fn commit(&mut self, router: u32) -> Result<(), OrMemory<Refusal>>
-        requires run { self.old.retains ≡ false → owns self.old router ≡ true → router < self.old.case.net.nodes → FollowsRun self.old router }
+        requires run { self.old.terms.retains ≡ false → owns self.old router ≡ true → router < self.old.terms.case.net.nodes → FollowsRun self.old router }
         ensures ok { (stop : ℕ) → OnOk result (committing stop self.old router ≡ Ok (shard_core stop self.new)) }
         ensures events { OnOk result (self.new ≡ committed_at self.old router) }
-        ensures past { let h = (shard_core 0 self.old).history router in OnOk result (IsFalling (simulation self.old.case) h
-            → (timeline self.new router).past ≡ below (simulation self.old.case) self.old.bound h) }
-        ensures ahead { let h = (shard_core 0 self.old).history router in OnOk result (IsFalling (simulation self.old.case) h
+        ensures past { let h = (shard_core 0 self.old).history router in OnOk result (IsFalling (simulation self.old.terms.case) h
+            → (timeline self.new router).past ≡ below (simulation self.old.terms.case) self.old.bound h) }
+        ensures ahead { let h = (shard_core 0 self.old).history router in OnOk result (IsFalling (simulation self.old.terms.case) h
             → (timeline self.new router).ahead ≡ not_before self.old.bound h) }
         ensures refused { (stop : ℕ) (f : ARefusal) → IsErrOf result (or_memory.Fault f) ↔ (committing stop self.old router ≡ Err f) }
         ensures err { OnErr result (self.new ≡ self.old) }
@@ -52,7 +52,7 @@ impl<'a> Shard<'a> {
     /// One of its routers commits its events before the bound.
     fn commit_own(&mut self, router: u32) -> Result<(), AllocError>
         requires own { owns self.old router ≡ true }
-        requires run { self.old.retains ≡ false → FollowsRun self.old router }
+        requires run { self.old.terms.retains ≡ false → FollowsRun self.old router }
         ensures ok { OnOk result (self.new ≡ committed_at self.old router) }
         ensures past { let t = timeline self.old router in OnOk result (IsFalling (simulation t.case) (history t)
             → (committed_to self.old.bound t).past ≡ below (simulation t.case) self.old.bound (history t)) }
@@ -70,8 +70,8 @@ impl<'a> Shard<'a> {
     /// How many events of one of its routers are committed, where these are retained.
     pub fn committed(&self, router: u32) -> usize
         requires own { owns self.now router ≡ true }
-        requires retains { self.now.retains ≡ true }
-        ensures { result ≡ length (committed (simulation self.now.case) (shard_core 0 self.now) router) }
+        requires retains { self.now.terms.retains ≡ true }
+        ensures { result ≡ length (committed (simulation self.now.terms.case) (shard_core 0 self.now) router) }
     {
         self.timeline(router).committed()
     }
@@ -79,7 +79,7 @@ impl<'a> Shard<'a> {
     /// How many events one of its routers has handled that are not committed.
     pub fn ahead(&self, router: u32) -> usize
         requires { owns self.now router ≡ true }
-        ensures { result ≡ length ((shard_core 0 self.now).history router) - length (committed (simulation self.now.case) (shard_core 0 self.now) router) }
+        ensures { result ≡ length ((shard_core 0 self.now).history router) - length (committed (simulation self.now.terms.case) (shard_core 0 self.now) router) }
     {
         self.timeline(router).ahead_len()
     }
@@ -88,7 +88,7 @@ impl<'a> Shard<'a> {
     /// router has handled and not undone, whether committed or not; 0 where none did.
     pub fn last_change(&self, router: u32) -> u64
         requires { owns self.now router ≡ true }
-        ensures { result ≡ last_change_at self.now.case.net router ((shard_core 0 self.now).history router) }
+        ensures { result ≡ last_change_at self.now.terms.case.net router ((shard_core 0 self.now).history router) }
     {
         self.timeline(router).last_change()
     }
@@ -97,7 +97,7 @@ impl<'a> Shard<'a> {
     /// first, where committed ones are kept. `None` past the last.
     pub fn handled(&self, router: u32, k: usize) -> Option<Event>
         requires own { owns self.now router ≡ true }
-        requires retains { self.now.retains ≡ true }
+        requires retains { self.now.terms.retains ≡ true }
         ensures { result ≡ slice_get (reverse (history (timeline self.now router))) k }
     {
         self.timeline(router).handled(k)

@@ -74,8 +74,8 @@ impl<'a> Shard<'a> {
         ensures least { OnTrue result (least event_before self.old.pending ≡ Some event.new) }
         ensures before { OnTrue result (event.new.time < limit) }
         ensures first { OnTrue result (slice_get self.old.pending 0 ≡ Some event.new) }
-        ensures next { (stop : ℕ) → OnTrue result (first_pending (simulation self.old.case) (shard_core stop self.old) event.new.dst ≡ Some event.new) }
-        ensures suits { OnTrue result (suits self.old.case.net event.new.dst event.new ≡ true) }
+        ensures next { (stop : ℕ) → OnTrue result (first_pending (simulation self.old.terms.case) (shard_core stop self.old) event.new.dst ≡ Some event.new) }
+        ensures suits { OnTrue result (suits self.old.terms.case.net event.new.dst event.new ≡ true) }
         ensures none { OnFalse result ((e : AnEvent) → least event_before self.old.pending ≡ Some e → limit ≤ e.time) }
         ensures same { self.new ≡ self.old }
     {
@@ -85,8 +85,8 @@ impl<'a> Shard<'a> {
     /// The router of an event, the least one that is pending, handles it.
     fn handle_first(&mut self, event: &Event) -> Result<(), OrMemory<Refusal>>
         requires first { slice_get self.old.pending 0 ≡ Some event.now }
-        requires next { (stop : ℕ) → first_pending (simulation self.old.case) (shard_core stop self.old) event.now.dst ≡ Some event.now }
-        requires suit { suits self.old.case.net event.now.dst event.now ≡ true }
+        requires next { (stop : ℕ) → first_pending (simulation self.old.terms.case) (shard_core stop self.old) event.now.dst ≡ Some event.now }
+        requires suit { suits self.old.terms.case.net event.now.dst event.now ≡ true }
         requires early { event.now.time ≤ LATEST }
         ensures ok { (stop : ℕ) → event.now.time < stop → OnOk result (handling stop self.old event.now.dst ≡ Ok (shard_core stop self.new)) }
         ensures refused { (stop : ℕ) → event.now.time < stop → (f : ARefusal) → IsErrOf result (or_memory.Fault f)
@@ -106,7 +106,7 @@ impl<'a> Shard<'a> {
 
     /// Whether the router of an event, its first pending one, may handle it, if no counter is full.
     fn may_handle_first(&self, event: &Event) -> Result<(), Refusal>
-        requires { (stop : ℕ) → first_pending (simulation self.now.case) (shard_core stop self.now) event.now.dst ≡ Some event.now }
+        requires { (stop : ℕ) → first_pending (simulation self.now.terms.case) (shard_core stop self.now) event.now.dst ≡ Some event.now }
         ensures own { OnOk result (owns self.now event.now.dst ≡ true) }
         ensures free { OnOk result (may_handle self.now event.now.dst event.now ≡ Ok tt) }
         ensures err { (f : ARefusal) → IsErrOf result f → (stop : ℕ) → event.now.time < stop → handling stop self.now event.now.dst ≡ Err f }
@@ -122,7 +122,7 @@ impl<'a> Shard<'a> {
     /// One of its routers handles an event, the least one that is pending.
     fn step_first(&mut self, event: &Event) -> Result<(), OrMemory<CounterFull>>
         requires own { owns self.old event.now.dst ≡ true }
-        requires fits { IsTrue (fits self.old.case.net event.now.dst event.now) }
+        requires fits { IsTrue (fits self.old.terms.case.net event.now.dst event.now) }
         requires first { slice_get self.old.pending 0 ≡ Some event.now }
         ensures ok { OnOk result (self.new ≡ handled_at self.old event.now.dst event.now) }
         ensures err { OnErr result (self.new ≡ self.old) }

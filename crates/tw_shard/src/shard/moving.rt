@@ -31,9 +31,9 @@ impl<'a> Shard<'a> {
     /// It is refused as `NotMine` where the router is none of the shard's. After a refusal and for want of memory
     /// nothing has changed in either shard.
     pub fn hand_over(&mut self, router: u32, to: &mut Shard<'a>) -> Result<(), OrMemory<Refusal>>
-        requires case { to.old.case ≡ self.old.case }
-        requires retains { to.old.retains ≡ self.old.retains }
-        requires cancel { to.old.cancel ≡ self.old.cancel }
+        requires case { to.old.terms.case ≡ self.old.terms.case }
+        requires retains { to.old.terms.retains ≡ self.old.terms.retains }
+        requires cancel { to.old.terms.cancel ≡ self.old.terms.cancel }
         requires new { owns to.old router ≡ false }
         ensures left { OnOk result (HasMovedOut router self.old self.new) }
         ensures came { OnOk result (HasMovedIn router self.old to.old to.new) }
@@ -51,8 +51,8 @@ impl<'a> Shard<'a> {
     /// One of its routers goes to another shard.
     fn hand_over_own(&mut self, router: u32, to: &mut Shard<'a>) -> Result<(), AllocError>
         requires own { owns self.old router ≡ true }
-        requires case { to.old.case ≡ self.old.case }
-        requires retains { to.old.retains ≡ self.old.retains }
+        requires case { to.old.terms.case ≡ self.old.terms.case }
+        requires retains { to.old.terms.retains ≡ self.old.terms.retains }
         requires new { owns to.old router ≡ false }
         ensures left { OnOk result (HasMovedOut router self.old self.new) }
         ensures came { OnOk result (HasMovedIn router self.old to.old to.new) }

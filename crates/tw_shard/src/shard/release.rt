@@ -23,7 +23,7 @@ impl<'a> Shard<'a> {
         ensures refused { (stop : ℕ) (f : ARefusal) → IsErrOf result (or_memory.Fault f) ↔ (releasing stop self.old router ≡ Err f) }
         ensures err { OnErr result (self.new ≡ self.old) }
         ensures same { IsSameShare self.old self.new }
-        ensures free { owns self.old router ≡ true → from (simulation self.old.case) router self.old.held ≡ [] → IsOk result }
+        ensures free { owns self.old router ≡ true → from (simulation self.old.terms.case) router self.old.held ≡ [] → IsOk result }
     {
         if !self.owns(router) {
             return Err(OrMemory::Fault(Refusal::NotMine));
@@ -36,7 +36,7 @@ impl<'a> Shard<'a> {
     fn release_own(&mut self, router: u32) -> Result<(), AllocError>
         ensures ok { OnOk result (self.new ≡ released_at self.old router) }
         ensures err { OnErr result (self.new ≡ self.old) }
-        ensures free { from (simulation self.old.case) router self.old.held ≡ [] → IsOk result }
+        ensures free { from (simulation self.old.terms.case) router self.old.held ≡ [] → IsOk result }
     {
         let count = self.held.count_of_sender(router);
         if count == 0 {

@@ -126,7 +126,7 @@ impl<'a> Shard<'a> {
     /// One of its routers handles an event, which is pending.
     fn step_on(&mut self, router: u32, event: &Event) -> Result<(), OrMemory<CounterFull>>
         requires own { owns self.old router ≡ true }
-        requires fits { IsTrue (fits self.old.case.net router event.now) }
+        requires fits { IsTrue (fits self.old.terms.case.net router event.now) }
         ensures ok { OnOk result (self.new ≡ handled_at self.old router event.now) }
         ensures err { OnErr result (self.new ≡ self.old) }
         ensures full { IsErrOf result (or_memory.Fault counter_full)

@@ -119,7 +119,7 @@ impl<'a> VacantShard<'a> {
         ensures at { (who : ℕ → ℕ) → self.entry.routers ≡ filter (λ r. who r == self.entry.worker) (range_with_len 0 self.entry.case.net.nodes)
             → IsShardAt self.entry.case who self.entry.time self.entry.worker self.entry.retains self.entry.cancel result }
         ensures order { routers result ≡ self.entry.routers }
-        ensures workers { result.workers ≡ self.entry.workers }
+        ensures workers { result.terms.workers ≡ self.entry.workers }
     {
         let alloc = *self.timelines.allocator();
         let nodes = self.case.instance().nodes();

@@ -12,7 +12,7 @@ add_committed-requires c =
     let known : c.loop-router.router < c.args.case.now.net.nodes = (let count = c.nodes-router-end.ensures.value in let net = ap (λ net. net.nodes) c.instance.ensures.value in let more = c.loop-router-test.true in omega arith) in
     record {
       own = own_there c.args.case.now c.args.shards.now c.requires.all c.loop-router.router known c.shard_for.result.now c.shard_for.ensures;
-      retains = ap (λ (s : Shard). s.retains) c.shard_for.ensures ∙ c.requires.retained.retains c.loop-router.router known;
+      retains = ap (λ (s : Shard). s.terms.retains) c.shard_for.ensures ∙ c.requires.retained.retains c.loop-router.router known;
     }
 
 pub loop-router-preserved : goal.loop-router-preserved

@@ -16,7 +16,7 @@ returns-clause-past c =
     let s = c.args.self.now in
     let r = c.args.router in
     let mine = sym c.owns.ensures.value ∙ c.if-not-owns.false in
-    subst (λ (t : Shard). IsFalling (simulation s.case) ((shard_core 0 s).history r) → (timeline t r).past ≡ below (simulation s.case) s.bound ((shard_core 0 s).history r))
+    subst (λ (t : Shard). IsFalling (simulation s.terms.case) ((shard_core 0 s).history r) → (timeline t r).past ≡ below (simulation s.terms.case) s.bound ((shard_core 0 s).history r))
     (sym c.in_ok-commit_own.ensures.ok)
     (past_committed s r c.owns.ensures.whole mine c.in_ok-commit_own.ensures.past)
 
@@ -25,7 +25,7 @@ returns-clause-ahead c =
     let s = c.args.self.now in
     let r = c.args.router in
     let mine = sym c.owns.ensures.value ∙ c.if-not-owns.false in
-    subst (λ (t : Shard). IsFalling (simulation s.case) ((shard_core 0 s).history r) → (timeline t r).ahead ≡ not_before s.bound ((shard_core 0 s).history r))
+    subst (λ (t : Shard). IsFalling (simulation s.terms.case) ((shard_core 0 s).history r) → (timeline t r).ahead ≡ not_before s.bound ((shard_core 0 s).history r))
     (sym c.in_ok-commit_own.ensures.ok)
     (ahead_committed s r c.owns.ensures.whole mine c.in_ok-commit_own.ensures.ahead)
 
@@ -33,5 +33,5 @@ pub commit_own-requires-clause-run : goal.commit_own-requires-clause-run
 commit_own-requires-clause-run c =
     let mine = sym c.owns.ensures.value ∙ c.if-not-owns.false in
     let s = c.args.self.now in
-    let run : s.retains ≡ false → owns s c.args.router ≡ true → c.args.router < s.case.net.nodes → FollowsRun s c.args.router = c.requires.run in
+    let run : s.terms.retains ≡ false → owns s c.args.router ≡ true → c.args.router < s.terms.case.net.nodes → FollowsRun s c.args.router = c.requires.run in
     λ lets. run lets mine (c.owns.ensures.whole.routers c.args.router mine).known

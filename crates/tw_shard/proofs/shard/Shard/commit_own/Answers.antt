@@ -17,17 +17,13 @@ invariant_of-self-2 c =
     let at : c.place-place.result ≡ place s r = c.place-place.ensures.value ∙ ap (λ s. place s r) (sym c.self.view_is) in
     let there : get_or c.deref_mut.result.now c.place-place.result no_timeline ≡ timeline s r = λ i. get_or (c.deref_mut.ensures.value i) (at i) no_timeline in
     changed_shard a _ r (committed_to a.bound (timeline s r)) c.self.invariant mine (record {
-      case = refl;
-      worker = refl;
-      workers = refl;
+      terms = refl;
       roster = refl;
       timelines =
           other_items a.timelines.len c.commit_at.new.timelines _ (c.commit_at.auto.timelines ∙ c.deref_mut.ensures.len)
           ∙ (c.in_ok-commit_at.ensures.ok ∙ λ i. set (c.deref_mut.ensures.value i) (at i) (committed_to a.bound (there i)));
       kept = refl;
       bound = refl;
-      retains = refl;
-      cancel = refl;
       pending_routers = refl;
       kept_routers = refl;
       held_routers = refl;

@@ -37,7 +37,7 @@ returns-clause-next c = λ stop.
     let a = c.self.inside in
     let e = c.copy_least_before.new.event in
     on_true c.copy_least_before.result (λ some.
-    ap (λ (s : Shard). first_pending (simulation s.case) (shard_core stop s) e.dst) (sym c.self.view_is)
+    ap (λ (s : Shard). first_pending (simulation s.terms.case) (shard_core stop s) e.dst) (sym c.self.view_is)
     ∙ head_next a.case.now c.self.invariant.whole.case e a.pending.events c.copy_least_before.ensures.queue.rising (sym some)) c.copy_least_before.ensures.some
 
 pub returns-clause-suits : goal.returns-clause-suits
@@ -45,7 +45,7 @@ returns-clause-suits c =
     let a = c.self.inside in
     let e = c.copy_least_before.new.event in
     on_true c.copy_least_before.result (λ some.
-    subst (λ (s : Shard). suits s.case.net e.dst e ≡ true) c.self.view_is
+    subst (λ (s : Shard). suits s.terms.case.net e.dst e ≡ true) c.self.view_is
     (head_suits a.case.now.net e a.pending.events (sym some) c.self.invariant.whole.pending)) c.copy_least_before.ensures.some
 
 pub returns-clause-none : goal.returns-clause-none

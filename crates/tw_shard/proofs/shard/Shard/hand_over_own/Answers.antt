@@ -1,5 +1,5 @@
 use Rattle.std.proofs.Common.{◌≡◌, ◌++◌, ◌∷◌, [], true, false, ap, sym, subst, ◌∙◌, arith}
-use Rattle.tw_shard.specs.Inside.{HasHandledTo, shard_of}
+use Rattle.tw_shard.specs.Inside.{HasHandledTo, shard_of, terms_of}
 use Rattle.tw_shard.specs.Moving.{HasMovedIn, HasMovedOut}
 use Rattle.tw_shard.specs.Shard.{IsSoundShard, Shard, owns}
 use Rattle.tw_shard.proofs.HandingOver.{after_coming, after_leaving, has_come, has_left, latest_come, latest_left, whole_come, whole_left}
@@ -11,11 +11,11 @@ mine c = ap (λ s. owns s c.args.router) c.self.view_is ∙ c.requires.own
 new : (c : goal.After-count_coming) → owns (shard_of c.to.inside) c.args.router ≡ false
 new c = ap (λ s. owns s c.args.router) c.to.view_is ∙ c.requires.new
 
-same_case : (c : goal.After-count_coming) → (shard_of c.to.inside).case ≡ (shard_of c.self.inside).case
-same_case c = ap (λ s. s.case) c.to.view_is ∙ (c.requires.case ∙ ap (λ s. s.case) (sym c.self.view_is))
+same_case : (c : goal.After-count_coming) → (shard_of c.to.inside).terms.case ≡ (shard_of c.self.inside).terms.case
+same_case c = ap (λ s. s.terms.case) c.to.view_is ∙ (c.requires.case ∙ ap (λ s. s.terms.case) (sym c.self.view_is))
 
-same_keeps : (c : goal.After-count_coming) → (shard_of c.to.inside).retains ≡ (shard_of c.self.inside).retains
-same_keeps c = ap (λ s. s.retains) c.to.view_is ∙ (c.requires.retains ∙ ap (λ s. s.retains) (sym c.self.view_is))
+same_keeps : (c : goal.After-count_coming) → (shard_of c.to.inside).terms.retains ≡ (shard_of c.self.inside).terms.retains
+same_keeps c = ap (λ s. s.terms.retains) c.to.view_is ∙ (c.requires.retains ∙ ap (λ s. s.terms.retains) (sym c.self.view_is))
 
 abbrev left : goal.After-count_coming → Shard
 left c =
@@ -28,9 +28,7 @@ come c =
 
 abbrev self_now : goal.After-count_coming → Shard
 self_now c = record {
-  case = c.self.inside.case.now;
-  worker = c.self.inside.worker;
-  workers = c.self.inside.workers;
+  terms = terms_of c.self.inside;
   routers = c.take_out-timeline.new.roster.routers;
   timelines = c.take_out-timeline.new.timelines.items;
   pending = c.hand_over_waiting.new.pending.events;
@@ -38,15 +36,11 @@ self_now c = record {
   outgoing = c.self.inside.outgoing.items;
   held = c.hand_over_waiting.new.held.events;
   bound = c.self.inside.bound;
-  retains = c.self.inside.retains;
-  cancel = c.self.inside.cancel;
 }
 
 abbrev to_now : goal.After-count_coming → Shard
 to_now c = record {
-  case = c.to.inside.case.now;
-  worker = c.to.inside.worker;
-  workers = c.to.inside.workers;
+  terms = terms_of c.to.inside;
   routers = c.add.new.self.routers;
   timelines = c.push_reserved.new.self.items;
   pending = c.hand_over_waiting.new.to_pending.events;
@@ -54,8 +48,6 @@ to_now c = record {
   outgoing = c.to.inside.outgoing.items;
   held = c.hand_over_waiting.new.to_held.events;
   bound = c.max-to-inside-2.result;
-  retains = c.to.inside.retains;
-  cancel = c.to.inside.cancel;
 }
 
 left_is : (c : goal.After-count_coming) → left c ≡ self_now c
@@ -63,9 +55,7 @@ left_is c =
     let s = shard_of c.self.inside in
     let given = c.in_ok-hand_over_waiting.ensures in
     λ i. record {
-      case = s.case;
-      worker = s.worker;
-      workers = s.workers;
+      terms = s.terms;
       routers = c.take_out-timeline.new.roster.routers;
       timelines = c.take_out-timeline.new.timelines.items;
       pending = sym given.pending i;
@@ -73,8 +63,6 @@ left_is c =
       outgoing = s.outgoing;
       held = sym given.held i;
       bound = s.bound;
-      retains = s.retains;
-      cancel = s.cancel;
     }
 
 come_is : (c : goal.After-count_coming) → come c ≡ to_now c
@@ -88,9 +76,7 @@ come_is c =
     c.push_reserved.ensures.items
     ∙ (λ i. c.reserve.ensures.items i ++ c.take_out-timeline.ensures.timeline i ∷ []) in
     λ i. record {
-      case = t.case;
-      worker = t.worker;
-      workers = t.workers;
+      terms = t.terms;
       routers = sym routers i;
       timelines = sym lines i;
       pending = sym given.to_pending i;
@@ -98,8 +84,6 @@ come_is c =
       outgoing = t.outgoing;
       held = sym given.to_held i;
       bound = sym c.max-to-inside-2.ensures i;
-      retains = t.retains;
-      cancel = t.cancel;
     }
 
 pub invariant_of-self-2 : goal.invariant_of-self-2

@@ -7,8 +7,8 @@ use Rattle.tw_shard.specs.Shard.{HandlesNext, Shard, handled_at, handling, may_h
 use Rattle.tw_shard.proofs.Steps.{goes_on, is_stuck}
 use Rattle.tw_shard.proofs.shard.Shard.handle_first.Goals as goal
 
-next : (s : Shard) (e : Event) → owns s e.dst ≡ true → ((stop : ℕ) → first_pending (simulation s.case) (shard_core stop s) e.dst ≡ Some e) → may_handle s e.dst e ≡ Ok tt
-    → suits s.case.net e.dst e ≡ true → (stop : ℕ) → e.time < stop → HandlesNext stop s e.dst e
+next : (s : Shard) (e : Event) → owns s e.dst ≡ true → ((stop : ℕ) → first_pending (simulation s.terms.case) (shard_core stop s) e.dst ≡ Some e) → may_handle s e.dst e ≡ Ok tt
+    → suits s.terms.case.net e.dst e ≡ true → (stop : ℕ) → e.time < stop → HandlesNext stop s e.dst e
 next s e own first free suit stop soon = record { own = own; first = first stop; soon = soon; free = free; suit = suit }
 
 pub returns-in-Err-clause-refused : goal.returns-in-Err-clause-refused

@@ -10,7 +10,7 @@ use Rattle.tw_shard.proofs.shard.Shard.handle_least.Goals as goal
 pub handle_first-requires-clause-next : goal.handle_first-requires-clause-next
 handle_first-requires-clause-next c = λ stop.
     let e = c.copy_least.new.event in
-    subst (λ (s : Shard). first_pending (simulation s.case) (shard_core stop s) e.dst ≡ Some e) (sym (c.count_tick.ensures ∙ c.copy_least.ensures.same)) (c.if-not-copy_least.ensures.next stop)
+    subst (λ (s : Shard). first_pending (simulation s.terms.case) (shard_core stop s) e.dst ≡ Some e) (sym (c.count_tick.ensures ∙ c.copy_least.ensures.same)) (c.if-not-copy_least.ensures.next stop)
 
 pub returns-clause-ok : goal.returns-clause-ok
 returns-clause-ok c = λ stop later.

@@ -11,4 +11,4 @@ returns c =
     let a = c.self.inside in
     c.least_time_of.ensures
     ∙ (least_sent a.case.now c.self.invariant.whole.case c.args.router a.held.events c.self.invariant.whole.held
-    ∙ ap (λ (s : Shard). reduce min (map (λ e. e.time) (from (simulation s.case) c.args.router s.held))) c.self.view_is)
+    ∙ ap (λ (s : Shard). reduce min (map (λ e. e.time) (from (simulation s.terms.case) c.args.router s.held))) c.self.view_is)

@@ -16,7 +16,7 @@ returns-then-count-eq0-clause-ok c =
 pub returns-in_err-reserve-clause-free : goal.returns-in_err-reserve-clause-free
 returns-in_err-reserve-clause-free c = λ none.
     absurd (c.if-count-eq0.false
-    (c.count_of_sender-count.ensures ∙ ap length (ap (λ (s : Shard). from (simulation s.case) c.args.router s.held) c.self.view_is ∙ none)))
+    (c.count_of_sender-count.ensures ∙ ap length (ap (λ (s : Shard). from (simulation s.terms.case) c.args.router s.held) c.self.view_is ∙ none)))
 
 pub invariant_of-self-2 : goal.invariant_of-self-2
 invariant_of-self-2 c =

@@ -27,27 +27,23 @@ invariant_of-self-3 c =
     let there : get_or c.deref_mut.result.now c.place-place.result no_timeline ≡ timeline s r = λ i. get_or (c.deref_mut.ensures.value i) (at i) no_timeline in
     let undone = c.in_ok-event.ensures.ok in
     let fit : fits (timeline s r).net (timeline s r).node e ≡ true = subst (λ (t : Timeline). fits t.net t.node e ≡ true) there c.in_ok-event.ensures.fits in
-    let suit : suits s.case.net e.dst e ≡ true = subst (λ net. suits net e.dst e ≡ true) own.net (fits_suits (timeline s r).net (timeline s r).node e fit) in
+    let suit : suits s.terms.case.net e.dst e ≡ true = subst (λ net. suits net e.dst e ≡ true) own.net (fits_suits (timeline s r).net (timeline s r).node e fit) in
     let inserted : c.insert.new.self.events ≡ insert event_before e c.reserve.new.self.events = rw c.unwrap.ensures at c.insert.ensures.ok in
     let pending : c.insert.new.self.events ≡ insert event_before e a.pending.events = inserted ∙ ap (insert event_before e) c.reserve.ensures.events in
     changed_shard a _ r (record (timeline s r) { ahead = undone.0 }) c.self.invariant mine (record {
-      case = refl;
-      worker = refl;
-      workers = refl;
+      terms = refl;
       roster = refl;
       timelines =
           other_items a.timelines.len c.undo_at.new.timelines _ (c.undo_at.auto.timelines ∙ c.deref_mut.ensures.len)
           ∙ (undone.2 ∙ λ i. set (c.deref_mut.ensures.value i) (at i) (record (there i) { ahead = undone.0 }));
       kept = refl;
       bound = refl;
-      retains = refl;
-      cancel = refl;
       pending_routers = c.insert.ensures.routers ∙ c.reserve.ensures.routers;
       kept_routers = refl;
       held_routers = c.in_ok-event.ensures.routers;
     }) own.net own.node own.done own.case own.retains
-    (subst (AllByRecursion (λ x. suits s.case.net x.dst x ≡ true)) (sym pending)
-    (all-insert event_before (λ x. suits s.case.net x.dst x ≡ true) e a.pending.events suit c.self.invariant.whole.pending))
+    (subst (AllByRecursion (λ x. suits s.terms.case.net x.dst x ≡ true)) (sym pending)
+    (all-insert event_before (λ x. suits s.terms.case.net x.dst x ≡ true) e a.pending.events suit c.self.invariant.whole.pending))
     (subst (IsRising event_before event_same) (sym undone.4)
     (let t = get_or c.deref_mut.result.now c.place-place.result no_timeline in
     rising-held_back t.case a.cancel (sends_after t (undone.0 ++ t.past) e) a.held.events c.self.invariant.whole.held))
@@ -99,9 +95,7 @@ returns-clause-ok c =
       ap (λ t. t.ahead) (sym there) ∙ undone.1,
       fits_home (timeline s r).net (timeline s r).node e fit ∙ own.node,
       λ i. record {
-        case = a.case.now;
-        worker = a.worker;
-        workers = a.workers;
+        terms = s.terms;
         routers = a.roster.routers;
         timelines = timelines i;
         pending = pending i;
@@ -109,7 +103,5 @@ returns-clause-ok c =
         outgoing = outgoing i;
         held = held i;
         bound = a.bound;
-        retains = a.retains;
-        cancel = a.cancel;
       },
     )

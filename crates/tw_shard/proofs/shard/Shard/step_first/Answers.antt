@@ -28,23 +28,19 @@ invariant_of-self-2 c =
     let at : c.place-place.result ≡ place s r = c.place-place.ensures.value ∙ ap (λ s. place s r) (sym c.self.view_is) in
     let there : get_or c.deref_mut.result.now c.place-place.result no_timeline ≡ timeline s r = λ i. get_or (c.deref_mut.ensures.value i) (at i) no_timeline in
     changed_shard a _ r (record (timeline s r) { ahead = e ∷ (timeline s r).ahead }) c.self.invariant mine (record {
-      case = refl;
-      worker = refl;
-      workers = refl;
+      terms = refl;
       roster = refl;
       timelines =
           other_items a.timelines.len c.handle_at.new.timelines _ (c.handle_at.auto.timelines ∙ c.deref_mut.ensures.len)
           ∙ (c.in_ok-handle_at.ensures.ok ∙ λ i. set (c.deref_mut.ensures.value i) (at i) (record (there i) { ahead = e ∷ (there i).ahead }));
       kept = refl;
       bound = refl;
-      retains = refl;
-      cancel = refl;
       pending_routers = c.skip_least.ensures.routers;
       kept_routers = refl;
       held_routers = c.in_ok-handle_at.ensures.routers;
     }) own.net own.node own.done own.case own.retains
-    (subst (AllByRecursion (λ x. suits s.case.net x.dst x ≡ true)) (sym without)
-    (suit_without s.case.net e a.pending.events c.self.invariant.whole.pending))
+    (subst (AllByRecursion (λ x. suits s.terms.case.net x.dst x ≡ true)) (sym without)
+    (suit_without s.terms.case.net e a.pending.events c.self.invariant.whole.pending))
     (subst (IsRising event_before event_same) (sym c.in_ok-handle_at.ensures.held)
     (let t = get_or c.deref_mut.result.now c.place-place.result no_timeline in
     rising-still_held t.case (sends_after t (history t) e) a.held.events c.self.invariant.whole.held))
@@ -60,7 +56,7 @@ returns-clause-ok c =
     let without : c.skip_least.new.self.events ≡ take_out event_same e a.pending.events =
     c.skip_least.ensures.events ∙ head_out e a.pending.events (ap (λ s. slice_get s.pending 0) c.self.view_is ∙ c.requires.first) in
     let mine : owns s r ≡ true = subst (λ s. owns s r ≡ true) (sym c.self.view_is) c.requires.own in
-    let same : (timeline s r).case ≡ s.case = (c.self.invariant.whole.routers r mine).case in
+    let same : (timeline s r).case ≡ s.terms.case = (c.self.invariant.whole.routers r mine).case in
     let at : c.place-place.result ≡ place s r = c.place-place.ensures.value ∙ ap (λ s. place s r) (sym c.self.view_is) in
     let there : get_or c.deref_mut.result.now c.place-place.result no_timeline ≡ timeline s r = λ i. get_or (c.deref_mut.ensures.value i) (at i) no_timeline in
     let timelines =
@@ -71,9 +67,7 @@ returns-clause-ok c =
     let left = λ (case : Case) (t : Timeline). still_held (simulation case) (sends_after t (history t) e) a.held.events in
     let held = c.in_ok-handle_at.ensures.held ∙ ((λ i. left (there i).case (there i)) ∙ ap (λ case. left case (timeline s r)) same) in
     (λ i. record {
-      case = a.case.now;
-      worker = a.worker;
-      workers = a.workers;
+      terms = s.terms;
       routers = a.roster.routers;
       timelines = timelines i;
       pending = without i;
@@ -81,7 +75,5 @@ returns-clause-ok c =
       outgoing = outgoing i;
       held = held i;
       bound = a.bound;
-      retains = a.retains;
-      cancel = a.cancel;
     })
     ∙ ap (λ s. handled_at s r e) c.self.view_is

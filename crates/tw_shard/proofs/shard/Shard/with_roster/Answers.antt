@@ -14,9 +14,7 @@ opening_timelines-requires c =
 
 abbrev shard_of : goal.After-default → Shard
 shard_of c = record {
-  case = c.args.case.now;
-  worker = c.args.worker;
-  workers = c.args.workers;
+  terms = record { case = c.args.case.now; worker = c.args.worker; workers = c.args.workers; retains = c.args.retains; cancel = c.args.cancel };
   routers = c.args.roster.routers;
   timelines = c.in_ok-timelines.timelines.items;
   pending = c.in_ok-pending.pending.events;
@@ -24,8 +22,6 @@ shard_of c = record {
   outgoing = c.new-2.result.items;
   held = c.new-3.result.events;
   bound = 0;
-  retains = c.args.retains;
-  cancel = c.args.cancel;
 }
 
 is_begun : (c : goal.After-default) → IsBegun (shard_of c)

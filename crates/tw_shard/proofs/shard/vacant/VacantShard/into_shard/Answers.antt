@@ -8,9 +8,7 @@ use Rattle.tw_shard.proofs.shard.vacant.VacantShard.into_shard.Goals as goal
 
 abbrev shard_now : goal.After-drop-self-inside → Shard
 shard_now c = record {
-  case = c.self.inside.case.now;
-  worker = c.self.inside.worker;
-  workers = c.self.inside.workers;
+  terms = (let a = c.self.inside in record { case = a.case.now; worker = a.worker; workers = a.workers; retains = a.retains; cancel = a.cancel });
   routers = c.self.inside.roster.routers;
   timelines = c.self.inside.timelines.items;
   pending = c.self.inside.pending.events;
@@ -18,8 +16,6 @@ shard_now c = record {
   outgoing = c.new.result.items;
   held = c.new-2.result.events;
   bound = c.self.inside.time;
-  retains = c.self.inside.retains;
-  cancel = c.self.inside.cancel;
 }
 
 is_at : (c : goal.After-drop-self-inside) → IsAt c.self.inside.time (shard_now c)
