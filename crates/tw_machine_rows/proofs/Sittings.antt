@@ -46,9 +46,9 @@ sent q = record { shard = record q.shard { outgoing = [] }; mail = q.mail; unsen
 -- it has taken the exchange, deposited that, and has its mail
 pub may_give : (t : Table) (s : Seat) (h k : Held) (q v : Share) → IsReadyToTake t s q → share_of h ≡ share_at s → exchange_of h ≡ taken_by h → IsMet (share_at s ∷ []) (taken_by h)
     → IsBoard (taken_by h) → (taken_by h).stop ≡ stop_at s → IsSameSeat h k → (exchange_of h).bound ≤ (exchange_of k).bound
-    → exchange_of k ≡ visited (share_of h).shard.worker q.shard.outgoing (told_of q) (exchange_of h)
+    → exchange_of k ≡ visited (share_of h).shard.terms.worker q.shard.outgoing (told_of q) (exchange_of h)
     → v.shard ≡ record q.shard { outgoing = []; bound = max q.shard.bound (exchange_of k).bound }
-    → v.mail ≡ handed (share_of h).shard.worker q.shard.outgoing (exchange_of h) → v.unsent ≡ []
+    → v.mail ≡ handed (share_of h).shard.terms.worker q.shard.outgoing (exchange_of h) → v.unsent ≡ []
     → MayBeGiven (taken_by k) (share_of k) (exchange_of k) v
 may_give t s h k q v is own fresh met board stop same rising now shard mail unsent =
     let x = taken_by h in
@@ -58,19 +58,19 @@ may_give t s h k q v is own fresh met board stop same rising now shard mail unse
     let out : q.shard.outgoing ≡ (sent q).unsent = sym (ap (λ l. l ++ q.shard.outgoing) is.unsent) in
     let rises = subst (λ (b : Board). b.bound ≤ y.bound) fresh rising in
     let visit : IsVisited x y w (sent q) v = record {
-      board = now ∙ (λ i. visited (own i).shard.worker (out i) (told_of q) (fresh i));
+      board = now ∙ (λ i. visited (own i).shard.terms.worker (out i) (told_of q) (fresh i));
       shard = shard;
-      mail = mail ∙ (λ i. handed (own i).shard.worker (out i) (fresh i));
+      mail = mail ∙ (λ i. handed (own i).shard.terms.worker (out i) (fresh i));
       unsent = unsent;
     } in
     let may = visited_given x y 20 w (sent q) v met board (stop ∙ is.stop) kept is.mail refl rises visit in
     subst (λ b. MayBeGiven b (share_of k) y v) (sym same.taken) (subst (λ u. MayBeGiven x u y v) (sym (same.share ∙ own)) may)
 
 -- a shard that begins, with an empty hand
-pub new_share : (case : Case) (k : ℕ) (cancel : Cancel) (s : Shard) (h : Hand) → ((stop : ℕ) → shard_core stop s ≡ opening_core case k 2 cancel stop) → s.case ≡ case → s.worker ≡ k
-    → ((r : ℕ) → owns s r ≡ (nat_lt r case.net.nodes && (owner 2 r == k))) → s.workers ≡ 2 → h.mail.items ≡ [] → h.next ≡ 0 → h.out.items ≡ [] → IsNew case k 2 (share s h)
+pub new_share : (case : Case) (k : ℕ) (cancel : Cancel) (s : Shard) (h : Hand) → ((stop : ℕ) → shard_core stop s ≡ opening_core case k 2 cancel stop) → s.terms.case ≡ case → s.terms.worker ≡ k
+    → ((r : ℕ) → owns s r ≡ (nat_lt r case.net.nodes && (owner 2 r == k))) → s.terms.workers ≡ 2 → h.mail.items ≡ [] → h.next ≡ 0 → h.out.items ≡ [] → IsNew case k 2 (share s h)
 new_share case k cancel s h is same own routers many mail next out =
-    let told : s.cancel ≡ cancel = ap (λ (C : Core Event). C.cancel) (is 0) in
+    let told : s.terms.cancel ≡ cancel = ap (λ (C : Core Event). C.cancel) (is 0) in
     record { core_is = λ stop. is stop ∙ ap (λ c. opening_core case k 2 c stop) (sym told); case_is = same; worker = own; owns_are = routers; count = many; mail = λ i. drop (next i) (mail i); unsent = out }
 
 -- a list of two
@@ -99,8 +99,8 @@ begun case shards g h two each first second =
       two_shards = two;
       two_hands = refl;
       new = subst (λ (ss : List Shard). AreNew case 0 2 (shares_of ss (g ∷ h ∷ []))) (sym same) (
-        new_share case 0 Aggressive l.0 g one.core_is one.case_is one.worker one.owns_are one.count first.mail first.next first.out,
-        (new_share case 1 Aggressive l.1 h other.core_is other.case_is other.worker other.owns_are other.count second.mail second.next second.out, tt),
+        new_share case 0 Aggressive l.0 g one.core_is (ap (λ x. x.case) one.terms) (ap (λ x. x.worker) one.terms) one.owns_are (ap (λ x. x.workers) one.terms) first.mail first.next first.out,
+        (new_share case 1 Aggressive l.1 h other.core_is (ap (λ x. x.case) other.terms) (ap (λ x. x.worker) other.terms) other.owns_are (ap (λ x. x.workers) other.terms) second.mail second.next second.out, tt),
       );
     }
 

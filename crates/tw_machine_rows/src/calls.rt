@@ -8,7 +8,7 @@ use tw_sim::Signed;
 
 /// Handles the first event of a router to stop 20, once more where memory was refused.
 pub(crate) fn handle(shard: &mut Shard<'_>, router: u32) -> Result<(), OrMemory<Refusal>>
-    ensures { shard.new.case ≡ shard.old.case }
+    ensures { shard.new.terms.case ≡ shard.old.terms.case }
 {
     match shard.handle_next(router, 20) {
         Err(OrMemory::Memory) => shard.handle_next(router, 20),
@@ -18,7 +18,7 @@ pub(crate) fn handle(shard: &mut Shard<'_>, router: u32) -> Result<(), OrMemory<
 
 /// Undoes the last event of a router, once more where memory was refused.
 pub(crate) fn undo(shard: &mut Shard<'_>, router: u32) -> Result<(), OrMemory<Refusal>>
-    ensures { shard.new.case ≡ shard.old.case }
+    ensures { shard.new.terms.case ≡ shard.old.terms.case }
 {
     match shard.undo_last(router) {
         Err(OrMemory::Memory) => shard.undo_last(router),
@@ -28,7 +28,7 @@ pub(crate) fn undo(shard: &mut Shard<'_>, router: u32) -> Result<(), OrMemory<Re
 
 /// A message comes, once more where memory was refused.
 pub(crate) fn receive(shard: &mut Shard<'_>, message: Signed<Event>) -> Result<(), Returned>
-    ensures { shard.new.case ≡ shard.old.case }
+    ensures { shard.new.terms.case ≡ shard.old.terms.case }
 {
     match shard.receive(message) {
         Err(

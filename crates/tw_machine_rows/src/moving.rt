@@ -20,7 +20,7 @@ const OWNERS: [u32; 3] = [0, 0, 1];
 /// What one of two workers has of a case of three routers, by the list of their owners.
 fn shard<'a>(alloc: Global, case: &'a Case, worker: u32, cancel: Cancel) -> Option<Shard<'a>>
     requires { worker < 2 }
-    ensures { IfSome result (λ s. s.case ≡ case.now) }
+    ensures { IfSome result (λ s. s.terms.case ≡ case.now) }
 {
     if case.instance().nodes() != 3 {
         return None;
@@ -39,7 +39,7 @@ fn shard_at_last<'a>(
     cancel: Cancel,
 ) -> Option<Shard<'a>>
     requires { worker < 2 }
-    ensures { IfSome result (λ s. s.case ≡ case.now) }
+    ensures { IfSome result (λ s. s.terms.case ≡ case.now) }
 {
     match shard(alloc, case, worker, cancel) {
         None => shard(alloc, case, worker, cancel),
@@ -53,9 +53,9 @@ fn hand_over<'a>(
     router: u32,
     to: &mut Shard<'a>,
 ) -> Option<Result<(), OrMemory<Refusal>>>
-    requires { to.old.case ≡ from.old.case }
-    ensures from { from.new.case ≡ from.old.case }
-    ensures to { to.new.case ≡ to.old.case }
+    requires { to.old.terms.case ≡ from.old.terms.case }
+    ensures from { from.new.terms.case ≡ from.old.terms.case }
+    ensures to { to.new.terms.case ≡ to.old.terms.case }
 {
     if to.owns(router) || from.retains() != to.retains() || from.cancel() != to.cancel() {
         return None;
@@ -87,7 +87,7 @@ fn amounts_in(shard: &Shard<'_>) -> Amounts {
 
 /// Whether a router goes over, once more where memory was refused, after which nothing has changed.
 fn goes_over<'a>(from: &mut Shard<'a>, router: u32, to: &mut Shard<'a>) -> bool
-    requires { to.old.case ≡ from.old.case }
+    requires { to.old.terms.case ≡ from.old.terms.case }
 {
     let (here, there) = (amounts_in(from), amounts_in(to));
     match hand_over(from, router, to) {
@@ -123,7 +123,7 @@ fn has_routers(shard: &Shard<'_>, routers: &[u32]) -> bool {
 
 /// Whether a router that neither has is refused.
 fn is_refused<'a>(from: &mut Shard<'a>, to: &mut Shard<'a>) -> bool
-    requires { to.old.case ≡ from.old.case }
+    requires { to.old.terms.case ≡ from.old.terms.case }
 {
     let (here, there) = (amounts_in(from), amounts_in(to));
     hand_over(from, 3, to) == Some(Err(OrMemory::Fault(Refusal::NotMine)))
@@ -134,7 +134,7 @@ fn is_refused<'a>(from: &mut Shard<'a>, to: &mut Shard<'a>) -> bool
 /// The origin offers its path to router 1, which handles that; for router 1 a later offer waits, and an
 /// antimessage whose message has not come.
 fn goes_ahead(shard: &mut Shard<'_>) -> bool
-    ensures { shard.new.case ≡ shard.old.case }
+    ensures { shard.new.terms.case ≡ shard.old.terms.case }
 {
     let ([first, _], [_, later], [_, kept]) = (
         offers_of_origin(),
@@ -163,7 +163,7 @@ fn goes_on(shard: &mut Shard<'_>) -> bool {
 
 /// Whether router 1 goes over with its history and all that waits for it.
 fn comes_with_what_waits<'a>(from: &mut Shard<'a>, to: &mut Shard<'a>) -> bool
-    requires { to.old.case ≡ from.old.case }
+    requires { to.old.terms.case ≡ from.old.terms.case }
 {
     goes_ahead(from)
         && goes_over(from, 1, to)
@@ -190,7 +190,7 @@ fn comes_with_what_waits<'a>(from: &mut Shard<'a>, to: &mut Shard<'a>) -> bool
 
 /// Whether the origin goes over with what its undone start had sent, which it sends again there.
 fn comes_with_what_is_held<'a>(from: &mut Shard<'a>, to: &mut Shard<'a>) -> bool
-    requires { to.old.case ≡ from.old.case }
+    requires { to.old.terms.case ≡ from.old.terms.case }
 {
     handle(from, 0) == Ok(())
         && undo(from, 0) == Ok(())
@@ -231,13 +231,13 @@ fn holds_in(alloc: Global, case: &Case, cancel: Cancel, row: Row) -> bool {
         shard_at_last(alloc, case, 0, cancel),
         shard_at_last(alloc, case, 1, cancel),
         |from, to| -> bool
-            requires { to.old.case ≡ from.old.case }
+            requires { to.old.terms.case ≡ from.old.terms.case }
         { holds_of(from, to, row) },
     )
 }
 
 fn holds_of<'a>(from: &mut Shard<'a>, to: &mut Shard<'a>, row: Row) -> bool
-    requires { to.old.case ≡ from.old.case }
+    requires { to.old.terms.case ≡ from.old.terms.case }
 {
     match row {
         Row::DealtOut => are_dealt_out(from, to),

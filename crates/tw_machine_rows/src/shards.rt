@@ -58,7 +58,7 @@ fn receive_welcome(shard: &mut Shard<'_>, message: &Signed<Event>) -> bool {
 
 /// Commits and keeps, once more where memory was refused.
 fn commit(shard: &mut Shard<'_>, router: u32) -> Result<(), OrMemory<Refusal>>
-    requires { shard.old.retains ≡ true }
+    requires { shard.old.terms.retains ≡ true }
 {
     match shard.commit(router) {
         Err(OrMemory::Memory) => shard.commit(router),

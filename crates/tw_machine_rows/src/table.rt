@@ -117,8 +117,8 @@ fn handle(shard: &mut Shard<'_>, router: u32) -> bool
 
 /// A worker that has taken the exchange visits it, once more where memory was refused.
 fn visit(held: &mut Held, out: Vec<Signed<Event>>, report: Option<u64>) -> Option<Visit>
-    ensures board { OnSome result (exchange_of held.new ≡ visited (share_of held.old).shard.worker out.items report (exchange_of held.old)) }
-    ensures mail { IfSome result (λ v. v.mail.items ≡ handed (share_of held.old).shard.worker out.items (exchange_of held.old)) }
+    ensures board { OnSome result (exchange_of held.new ≡ visited (share_of held.old).shard.terms.worker out.items report (exchange_of held.old)) }
+    ensures mail { IfSome result (λ v. v.mail.items ≡ handed (share_of held.old).shard.terms.worker out.items (exchange_of held.old)) }
     ensures bound { IfSome result (λ v. v.bound ≡ (exchange_of held.new).bound) }
     ensures rising { OnSome result ((exchange_of held.old).bound ≤ (exchange_of held.new).bound) }
     ensures same { OnSome result (IsSameSeat held.old held.new) }
@@ -177,9 +177,9 @@ fn visit_dealt(
     requires dealt { (out : List (ASigned AnEvent)) × AreDealt (exchange_of held.old).owners (workers (exchange_of held.old)) out parcels.old }
     requires empty { mail.old.items ≡ [] }
     ensures board { OnSome result ((out : List (ASigned AnEvent)) → AreDealt (exchange_of held.old).owners (workers (exchange_of held.old)) out parcels.old
-        → exchange_of held.new ≡ visited (share_of held.old).shard.worker out report (exchange_of held.old)) }
+        → exchange_of held.new ≡ visited (share_of held.old).shard.terms.worker out report (exchange_of held.old)) }
     ensures mail { OnSome result ((out : List (ASigned AnEvent)) → AreDealt (exchange_of held.old).owners (workers (exchange_of held.old)) out parcels.old
-        → mail.new.items ≡ handed (share_of held.old).shard.worker out (exchange_of held.old)) }
+        → mail.new.items ≡ handed (share_of held.old).shard.terms.worker out (exchange_of held.old)) }
     ensures bound { IfSome result (λ told. told.bound ≡ (exchange_of held.new).bound) }
     ensures rising { OnSome result ((exchange_of held.old).bound ≤ (exchange_of held.new).bound) }
     ensures same { OnSome result (IsSameSeat held.old held.new) }

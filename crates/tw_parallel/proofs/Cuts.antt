@@ -119,7 +119,7 @@ module _ (case : Case) (is : IsCase case) (whose : ℕ → ℕ) (time : ℕ) (re
   -- a share at a time is a place at the cut
   place_at : (k : ℕ) (t : Share) → IsShareAt case whose time k retains cancel t → IsCutPlace m whose time k (place_of t)
   place_at k t at = record {
-    worker = at.shard.worker;
+    worker = at.shard.terms.worker;
     owns = λ r known. is_own k r t at known;
     history = λ r. history_at k r t at;
     pending = pending_at k t at;
@@ -143,21 +143,21 @@ module _ (case : Case) (is : IsCase case) (whose : ℕ → ℕ) (time : ℕ) (re
   all_shares Q f k [] at = tt
   all_shares Q f k (t ∷ ts) at = (f k t at.0, all_shares Q f (suc k) ts at.1)
 
-  in_order : (k : ℕ) (ts : List Share) → AreSharesAt case whose time k retains cancel ts → map (λ (t : Share). t.shard.worker) ts ≡ range_with_len k (length ts)
+  in_order : (k : ℕ) (ts : List Share) → AreSharesAt case whose time k retains cancel ts → map (λ (t : Share). t.shard.terms.worker) ts ≡ range_with_len k (length ts)
   in_order k [] at = refl
   in_order k (t ∷ ts) at =
       let next : suc k ≡ k + 1 = omega arith in
       let others = in_order (suc k) ts at.1 ∙ ap (λ j. range_with_len j (length ts)) next in
-      λ i. at.0.shard.worker i ∷ others i
+      λ i. at.0.shard.terms.worker i ∷ others i
 
   -- when they take back what undone events have sent
-  pub cancels_at : (k : ℕ) (ts : List Share) → AreSharesAt case whose time k retains cancel ts → map (λ (t : Share). t.shard.cancel) ts ≡ replicate (length ts) cancel
+  pub cancels_at : (k : ℕ) (ts : List Share) → AreSharesAt case whose time k retains cancel ts → map (λ (t : Share). t.shard.terms.cancel) ts ≡ replicate (length ts) cancel
   cancels_at k [] at = refl
   cancels_at k (t ∷ ts) at = λ i. at.0.shard.cancel_is i ∷ cancels_at (suc k) ts at.1 i
 
   -- whether they retain their events
-  pub retains_at : (k : ℕ) (ts : List Share) → retains ≡ true → AreSharesAt case whose time k retains cancel ts → AllByRecursion (λ (t : Share). t.shard.retains ≡ true) ts
-  retains_at k ts all at = all_shares (λ t. t.shard.retains ≡ true) (λ k t one. one.shard.retains_are ∙ all) k ts at
+  pub retains_at : (k : ℕ) (ts : List Share) → retains ≡ true → AreSharesAt case whose time k retains cancel ts → AllByRecursion (λ (t : Share). t.shard.terms.retains ≡ true) ts
+  retains_at k ts all at = all_shares (λ t. t.shard.terms.retains ≡ true) (λ k t one. one.shard.retains_are ∙ all) k ts at
 
   -- shards at a time, with an empty hand each
   pub shares_at : (k : ℕ) (ss : List Shard) (hs : List Hand) → length hs ≡ length ss → ((j : ℕ) → j < length ss → IsShardAt case whose time (k + j) retains cancel (get_or ss j no_shard))
@@ -198,7 +198,7 @@ module _ (case : Case) (time : ℕ) (retains : Bool) (cancel : Cancel) (x : Boar
   pub ruled_at : IsRuled case x shares
   ruled_at = record {
     is_case = at.is_case;
-    cases = all_shares case at.is_case (who x) time retains cancel (λ t. t.shard.case ≡ case) (λ k t one. one.shard.case_is) 0 shares at.each;
+    cases = all_shares case at.is_case (who x) time retains cancel (λ t. t.shard.terms.case ≡ case) (λ k t one. one.shard.case_is) 0 shares at.each;
     count = sym (ap length at.exchange.reports ∙ length-replicate (length shares) (Some time));
     rule = rule_at_cut (simulation case) (lawful case at.is_case) (numbered case at.is_case) (who x) time (board_of x) (map place_of shares) board_at
         (places_at case at.is_case (who x) time retains cancel 0 shares at.each) all_routers;
@@ -222,7 +222,7 @@ module _ (case : Case) (time : ℕ) (retains : Bool) (cancel : Cancel) (x : Boar
         alike = record {
           retains = retains;
           cancel = cancel;
-          each = all_shares case at.is_case (who x) time retains cancel (λ t. (t.shard.retains ≡ retains) × (t.shard.cancel ≡ cancel)) (λ k t one. (one.shard.retains_are, one.shard.cancel_is)) 0 shares
+          each = all_shares case at.is_case (who x) time retains cancel (λ t. (t.shard.terms.retains ≡ retains) × (t.shard.terms.cancel ≡ cancel)) (λ k t one. (one.shard.retains_are, one.shard.cancel_is)) 0 shares
               at.each;
         };
         stop = most;

@@ -105,10 +105,10 @@ module _ (s : Sim) (is : IsSim s) (r from to : ℕ) (apart : from ≡ to → ⊥
   abbrev t : Sim
   t = record { case = s.case; board = moved_board r to s.board; shares = later }
 
-  worker_from : between.share.shard.worker ≡ from
+  worker_from : between.share.shard.terms.worker ≡ from
   worker_from = let there = worker_there 0 (workers s.board) from s.shares between.share is.order between.there in omega arith
 
-  worker_to : between.other.shard.worker ≡ to
+  worker_to : between.other.shard.terms.worker ≡ to
   worker_to = let there = worker_there 0 (workers s.board) to s.shares between.other is.order between.other_there in omega arith
 
   -- what holds of each share, and of the two as they are later, holds of each later
@@ -144,17 +144,17 @@ module _ (s : Sim) (is : IsSim s) (r from to : ℕ) (apart : from ≡ to → ⊥
   pub moved_sim : IsSim t
   moved_sim = record {
     some = subst (λ n. 0 < n) (sym same_workers) is.some;
-    order = map_later (λ u. u.shard.worker) moved.left.terms.worker moved.came.terms.worker ∙ (is.order ∙ ap (range_with_len 0) (sym same_workers));
+    order = map_later (λ u. u.shard.terms.worker) (ap (λ x. x.worker) moved.left.terms) (ap (λ x. x.worker) moved.came.terms) ∙ (is.order ∙ ap (range_with_len 0) (sym same_workers));
     ruled = subst (λ w. IsRuled s.case (moved_board r w s.board) later) worker_to
-        (subst (IsRuled s.case (moved_board r between.other.shard.worker s.board)) (sym between.later_is)
+        (subst (IsRuled s.case (moved_board r between.other.shard.terms.worker s.board)) (sym between.later_is)
         (ruled_moves s.case s.board s.shares is.ruled r from to between.share between.other between.share_later between.other_later between.there between.other_there
         (λ same. apart (sym worker_from ∙ (same ∙ worker_to))) listed known (was ∙ sym worker_from) moved));
     known = each_later (AreOf s.case) is.known (λ old k own. old k (left_owned k own)) (λ old first k own. came_owned old k own);
     alike = record {
       retains = is.alike.retains;
       cancel = is.alike.cancel;
-      each = each_later (λ u. (u.shard.retains ≡ is.alike.retains) × (u.shard.cancel ≡ is.alike.cancel)) is.alike.each
-          (λ old. (moved.left.terms.retains ∙ old.0, moved.left.terms.cancel ∙ old.1)) (λ old first. (moved.came.terms.retains ∙ old.0, moved.came.terms.cancel ∙ old.1));
+      each = each_later (λ u. (u.shard.terms.retains ≡ is.alike.retains) × (u.shard.terms.cancel ≡ is.alike.cancel)) is.alike.each
+          (λ old. (ap (λ x. x.retains) moved.left.terms ∙ old.0, ap (λ x. x.cancel) moved.left.terms ∙ old.1)) (λ old first. (ap (λ x. x.retains) moved.came.terms ∙ old.0, ap (λ x. x.cancel) moved.came.terms ∙ old.1));
     };
     stop = is.stop;
   }
@@ -163,14 +163,14 @@ module _ (s : Sim) (is : IsSim s) (r from to : ℕ) (apart : from ≡ to → ⊥
   pub moved_rearranged : IsRearranged s t
   moved_rearranged = record {
     same = subst (λ w. IsSameMachine (simulation s.case) (machine s) (machine (record { case = s.case; board = moved_board r w s.board; shares = later }))) worker_to
-        (subst (λ l. IsSameMachine (simulation s.case) (machine s) (machine (record { case = s.case; board = moved_board r between.other.shard.worker s.board; shares = l }))) (sym between.later_is)
+        (subst (λ l. IsSameMachine (simulation s.case) (machine s) (machine (record { case = s.case; board = moved_board r between.other.shard.terms.worker s.board; shares = l }))) (sym between.later_is)
         (machine_stays s.case s.board s.shares is.ruled r from to between.share between.other between.share_later between.other_later between.there between.other_there
         (λ same. apart (sym worker_from ∙ (same ∙ worker_to))) listed known (was ∙ sym worker_from) moved));
     goes_on = record {
       case = refl;
       workers = same_workers;
-      retains = λ keep. each_later (λ u. u.shard.retains ≡ true) keep (λ old. moved.left.terms.retains ∙ old) (λ old first. moved.came.terms.retains ∙ old);
-      cancels = map_later (λ u. u.shard.cancel) moved.left.terms.cancel moved.came.terms.cancel;
+      retains = λ keep. each_later (λ u. u.shard.terms.retains ≡ true) keep (λ old. ap (λ x. x.retains) moved.left.terms ∙ old) (λ old first. ap (λ x. x.retains) moved.came.terms ∙ old);
+      cancels = map_later (λ u. u.shard.terms.cancel) (ap (λ x. x.cancel) moved.left.terms) (ap (λ x. x.cancel) moved.came.terms);
       bound = omega arith;
     };
     stop = refl;
@@ -233,11 +233,11 @@ module _ (a : Inside) (is : IsInside a) (r from to : ℕ) (known : r < a.case.no
 
   -- what all shares have alike
   alike : (k : ℕ) (h : Hand) → slice_get v.shares k ≡ Some (share (get_or ss k no_shard) h)
-      → ((get_or ss k no_shard).case ≡ v.case) × ((get_or ss k no_shard).retains ≡ is.sim.alike.retains) × ((get_or ss k no_shard).cancel ≡ is.sim.alike.cancel)
+      → ((get_or ss k no_shard).terms.case ≡ v.case) × ((get_or ss k no_shard).terms.retains ≡ is.sim.alike.retains) × ((get_or ss k no_shard).terms.cancel ≡ is.sim.alike.cancel)
   alike k h there =
       let t = share (get_or ss k no_shard) h in
-      let terms = all_at (λ (u : Share). (u.shard.retains ≡ is.sim.alike.retains) × (u.shard.cancel ≡ is.sim.alike.cancel)) v.shares k t there is.sim.alike.each in
-      (all_at (λ (u : Share). u.shard.case ≡ v.case) v.shares k t there is.sim.ruled.cases, terms.0, terms.1)
+      let terms = all_at (λ (u : Share). (u.shard.terms.retains ≡ is.sim.alike.retains) × (u.shard.terms.cancel ≡ is.sim.alike.cancel)) v.shares k t there is.sim.alike.each in
+      (all_at (λ (u : Share). u.shard.terms.case ≡ v.case) v.shares k t there is.sim.ruled.cases, terms.0, terms.1)
 
   passes : MayPass r (who a.exchange r) to ss
   passes =
@@ -246,11 +246,11 @@ module _ (a : Inside) (is : IsInside a) (r from to : ℕ) (known : r < a.case.no
       let t = share (get_or ss to no_shard) target_share.0 in
       let place = get_map place_of v.shares to t target_share.1 in
       let stands = all_at (Stands (simulation v.case) (who v.board) (board_of v.board)) (map place_of v.shares) to (place_of t) place is.sim.ruled.rule.each in
-      let worker : t.shard.worker ≡ 0 + to = worker_there 0 (workers v.board) to v.shares t is.sim.order target_share.1 in
+      let worker : t.shard.terms.worker ≡ 0 + to = worker_there 0 (workers v.board) to v.shares t is.sim.order target_share.1 in
       record {
         like = record { case = two.0 ∙ sym one.0; retains = two.1 ∙ sym one.1; cancel = two.2 ∙ sym one.2 };
         own = (own_there a is r known).1;
-        new = stands.owns r known ∙ ne_eqb (who a.exchange r) t.shard.worker (λ same. apart (same ∙ (let is_to : t.shard.worker ≡ to = omega arith in is_to)));
+        new = stands.owns r known ∙ ne_eqb (who a.exchange r) t.shard.terms.worker (λ same. apart (same ∙ (let is_to : t.shard.terms.worker ≡ to = omega arith in is_to)));
       }
 
   pub may_pass : MayPass r from to ss

@@ -32,7 +32,7 @@ module _ (case : Case) (is : IsCase case) (n : ℕ) (retains : Bool) (cancel : C
   -- a shard and a hand that begin are a place that begins
   place_opens : (k : ℕ) (s : Shard) (h : Hand) → IsOpeningShard case k n retains cancel s → IsEmptyHand h → IsOpeningPlace (simulation case) (owner n) k (place_of (share s h))
   place_opens k s h at empty = record {
-    worker = at.worker;
+    worker = ap (λ x. x.worker) at.terms;
     owns = λ r l. at.owns_are r ∙ ap (λ b. b && (owner n r == k)) (lt-ltb r case.net.nodes l);
     history = λ r. ap (λ (C : Core Event). C.history r) (at.core_is 0);
     pending = λ e. waits case is n retains cancel k s e at;
@@ -76,15 +76,15 @@ module _ (case : Case) (is : IsCase case) (n : ℕ) (retains : Bool) (cancel : C
       (ap (λ (C : Core Event). C.room r) ((first k s ss each).core_is 0), opening_rooms r (k + 1) ss hs (later k s ss each) (omega arith))
 
   in_order : (k : ℕ) (ss : List Shard) (hs : List Hand) → Begin k ss → length hs ≡ length ss
-      → map (λ (t : Share). t.shard.worker) (shares_of ss hs) ≡ range_with_len k (length ss)
+      → map (λ (t : Share). t.shard.terms.worker) (shares_of ss hs) ≡ range_with_len k (length ss)
   in_order k [] hs each same = refl
   in_order k (s ∷ ss) [] each same = absurd (omega arith)
-  in_order k (s ∷ ss) (h ∷ hs) each same = λ i. (first k s ss each).worker i ∷ in_order (k + 1) ss hs (later k s ss each) (omega arith) i
+  in_order k (s ∷ ss) (h ∷ hs) each same = λ i. ((first k s ss each).terms i).worker ∷ in_order (k + 1) ss hs (later k s ss each) (omega arith) i
 
-  all_of_case : (k : ℕ) (ss : List Shard) (hs : List Hand) → Begin k ss → length hs ≡ length ss → AllByRecursion (λ (t : Share). t.shard.case ≡ case) (shares_of ss hs)
+  all_of_case : (k : ℕ) (ss : List Shard) (hs : List Hand) → Begin k ss → length hs ≡ length ss → AllByRecursion (λ (t : Share). t.shard.terms.case ≡ case) (shares_of ss hs)
   all_of_case k [] hs each same = tt
   all_of_case k (s ∷ ss) [] each same = absurd (omega arith)
-  all_of_case k (s ∷ ss) (h ∷ hs) each same = ((first k s ss each).case_is, all_of_case (k + 1) ss hs (later k s ss each) (omega arith))
+  all_of_case k (s ∷ ss) (h ∷ hs) each same = (ap (λ x. x.case) (first k s ss each).terms, all_of_case (k + 1) ss hs (later k s ss each) (omega arith))
 
   all_known : (k : ℕ) (ss : List Shard) (hs : List Hand) → Begin k ss → length hs ≡ length ss → AllByRecursion (AreOf case) (shares_of ss hs)
   all_known k [] hs each same = tt
@@ -95,11 +95,11 @@ module _ (case : Case) (is : IsCase case) (n : ℕ) (retains : Bool) (cancel : C
   )
 
   all_alike : (k : ℕ) (ss : List Shard) (hs : List Hand) → Begin k ss → length hs ≡ length ss
-      → AllByRecursion (λ (t : Share). (t.shard.retains ≡ retains) × (t.shard.cancel ≡ cancel)) (shares_of ss hs)
+      → AllByRecursion (λ (t : Share). (t.shard.terms.retains ≡ retains) × (t.shard.terms.cancel ≡ cancel)) (shares_of ss hs)
   all_alike k [] hs each same = tt
   all_alike k (s ∷ ss) [] each same = absurd (omega arith)
   all_alike k (s ∷ ss) (h ∷ hs) each same = (
-    ((first k s ss each).retains_are, ap (λ (C : Core Event). C.cancel) ((first k s ss each).core_is 0)),
+    (ap (λ x. x.retains) (first k s ss each).terms, ap (λ x. x.cancel) (first k s ss each).terms),
     all_alike (k + 1) ss hs (later k s ss each) (omega arith),
   )
 

@@ -40,12 +40,12 @@ use Rattle.tw_table.specs.Shares.{Share, board_of, place_of, share, shares_of}
 
 -- a shard has of a router what the whole machine has
 pub record Has (s : Sim) (r : ℕ) (x : Shard) : Type 0 where
-  pub case : x.case ≡ s.case
+  pub case : x.terms.case ≡ s.case
   pub own : owns x r ≡ true
   pub history : (shard_core 0 x).history r ≡ (machine s).history r
   pub done : (shard_core 0 x).done r ≡ (machine s).done r
   pub past : (shard_core 0 x).past r ≡ (machine s).past r
-  pub retains : RetainsEvents s → x.retains ≡ true
+  pub retains : RetainsEvents s → x.terms.retains ≡ true
 
 module _ (s : Sim) (is : IsSim s) where
   pub law : IsLawful (simulation s.case)
@@ -67,12 +67,12 @@ module _ (s : Sim) (is : IsSim s) where
       let x = board_of s.board in
       let place = get_map place_of s.shares k t there in
       record {
-        case = all_at (λ (t : Share). t.shard.case ≡ s.case) s.shares k t there is.ruled.cases;
+        case = all_at (λ (t : Share). t.shard.terms.case ≡ s.case) s.shares k t there is.ruled.cases;
         own = own;
         history = sym (history_of (simulation s.case) law (who s.board) x ps k r (place_of t) is.ruled.rule place l own);
         done = sym (done_of (simulation s.case) law (who s.board) x ps k r (place_of t) is.ruled.rule place l own);
         past = sym (read_of (simulation s.case) law (who s.board) (λ (C : Core Event). C.past r) 0 x ps k r (place_of t) is.ruled.rule place l own);
-        retains = λ all. all_at (λ (t : Share). t.shard.retains ≡ true) s.shares k t there all;
+        retains = λ all. all_at (λ (t : Share). t.shard.terms.retains ≡ true) s.shares k t there all;
       }
 
   -- the share at the place of a router's worker has it
@@ -81,8 +81,8 @@ module _ (s : Sim) (is : IsSim s) where
       let k = who s.board r in
       let place = get_map place_of s.shares k t there in
       let stands = all_at (Stands (simulation s.case) (who s.board) (board_of s.board)) (map place_of s.shares) k (place_of t) place is.ruled.rule.each in
-      let worker : t.shard.worker ≡ 0 + k = worker_there 0 (workers s.board) k s.shares t is.order there in
-      stands.owns r l ∙ eq-eqb k t.shard.worker (omega arith)
+      let worker : t.shard.terms.worker ≡ 0 + k = worker_there 0 (workers s.board) k s.shares t is.order there in
+      stands.owns r l ∙ eq-eqb k t.shard.terms.worker (omega arith)
 
 -- what waits at all workers
 pub pending_of : (stop : ℕ) (ss : List Shard) (hs : List Hand) → length hs ≡ length ss

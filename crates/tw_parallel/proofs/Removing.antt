@@ -106,8 +106,8 @@ others_may case time r q retains x ss later t within changed gone other may =
           let line = gone.timelines q own in
           subst (MayLeave case time q retains) (sym here) (record {
             own = own;
-            case_is = ap (λ (u : Shard). u.case) gone.rest ∙ was.case_is;
-            retains_are = λ does. ap (λ (u : Shard). u.retains) gone.rest ∙ was.retains_are does;
+            case_is = ap (λ (u : Shard). u.terms.case) gone.rest ∙ was.case_is;
+            retains_are = λ does. ap (λ (u : Shard). u.terms.retains) gone.rest ∙ was.retains_are does;
             ahead = ap (λ (l : Timeline). l.ahead) line ∙ was.ahead;
             run = ap (λ (l : Timeline). history l) line ∙ was.run;
           }))

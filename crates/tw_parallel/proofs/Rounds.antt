@@ -29,17 +29,17 @@ as_long (x ∷ xs) [] h = absurd h
 as_long (x ∷ xs) (y ∷ ys) h = ap suc (as_long xs ys h.1)
 
 -- of one case
-one_case : (c d : Case) (xs ys : List Share) → 0 < length xs → AreSameShares xs ys → AllByRecursion (λ s. s.shard.case ≡ c) xs → AllByRecursion (λ s. s.shard.case ≡ d) ys → d ≡ c
+one_case : (c d : Case) (xs ys : List Share) → 0 < length xs → AreSameShares xs ys → AllByRecursion (λ s. s.shard.terms.case ≡ c) xs → AllByRecursion (λ s. s.shard.terms.case ≡ d) ys → d ≡ c
 one_case c d [] ys some same h k = absurd (omega (arith, some))
 one_case c d (x ∷ xs) [] some same h k = absurd same
-one_case c d (x ∷ xs) (y ∷ ys) some same h k = sym k.0 ∙ (same.0.case ∙ h.0)
+one_case c d (x ∷ xs) (y ∷ ys) some same h k = sym k.0 ∙ (ap (λ x. x.case) same.0.terms ∙ h.0)
 
 -- and retain their events as before
-still_retain : (xs ys : List Share) → AreSameShares xs ys → AllByRecursion (λ (t : Share). t.shard.retains ≡ true) xs → AllByRecursion (λ (t : Share). t.shard.retains ≡ true) ys
+still_retain : (xs ys : List Share) → AreSameShares xs ys → AllByRecursion (λ (t : Share). t.shard.terms.retains ≡ true) xs → AllByRecursion (λ (t : Share). t.shard.terms.retains ≡ true) ys
 still_retain [] [] same h = tt
 still_retain [] (y ∷ ys) same h = absurd same
 still_retain (x ∷ xs) [] same h = tt
-still_retain (x ∷ xs) (y ∷ ys) same h = (same.0.retains ∙ h.0, still_retain xs ys same.1 h.1)
+still_retain (x ∷ xs) (y ∷ ys) same h = (ap (λ x. x.retains) same.0.terms ∙ h.0, still_retain xs ys same.1 h.1)
 
 -- the routers that they have are of the case as before
 still_known : (c : Case) (xs ys : List Share) → AreSameShares xs ys → AllByRecursion (AreOf c) xs → AllByRecursion (AreOf c) ys
@@ -49,12 +49,12 @@ still_known c (x ∷ xs) [] same h = tt
 still_known c (x ∷ xs) (y ∷ ys) same h = (λ r own. h.0 r (ap (λ rs. has rs r) (sym same.0.routers) ∙ own), still_known c xs ys same.1 h.1)
 
 -- and retain their events and take back alike
-still_alike : (retains : Bool) (cancel : Cancel) (xs ys : List Share) → AreSameShares xs ys → AllByRecursion (λ (t : Share). (t.shard.retains ≡ retains) × (t.shard.cancel ≡ cancel)) xs
-    → AllByRecursion (λ (t : Share). (t.shard.retains ≡ retains) × (t.shard.cancel ≡ cancel)) ys
+still_alike : (retains : Bool) (cancel : Cancel) (xs ys : List Share) → AreSameShares xs ys → AllByRecursion (λ (t : Share). (t.shard.terms.retains ≡ retains) × (t.shard.terms.cancel ≡ cancel)) xs
+    → AllByRecursion (λ (t : Share). (t.shard.terms.retains ≡ retains) × (t.shard.terms.cancel ≡ cancel)) ys
 still_alike retains cancel [] [] same h = tt
 still_alike retains cancel [] (y ∷ ys) same h = absurd same
 still_alike retains cancel (x ∷ xs) [] same h = tt
-still_alike retains cancel (x ∷ xs) (y ∷ ys) same h = ((same.0.retains ∙ h.0.0, same.0.cancel ∙ h.0.1), still_alike retains cancel xs ys same.1 h.1)
+still_alike retains cancel (x ∷ xs) (y ∷ ys) same h = ((ap (λ x. x.retains) same.0.terms ∙ h.0.0, ap (λ x. x.cancel) same.0.terms ∙ h.0.1), still_alike retains cancel xs ys same.1 h.1)
 
 -- ---- so the run goes on
 
@@ -69,7 +69,7 @@ still_sim s y shares is whole same stop =
     let case = one_case s.case whole.case s.shares shares some same is.ruled.cases whole.ruled.cases in
     record {
       some = (let n = is.some in omega (arith, n, long));
-      order = same_map (λ t. t.worker) (λ t u is. is.worker) s.shares shares same ∙ (is.order ∙ ap (range_with_len 0) (sym long));
+      order = same_map (λ t. t.terms.worker) (λ t u is. ap (λ x. x.worker) is.terms) s.shares shares same ∙ (is.order ∙ ap (range_with_len 0) (sym long));
       ruled = subst (λ c. IsRuled c y shares) case whole.ruled;
       known = still_known s.case s.shares shares same is.known;
       alike = record {
@@ -86,7 +86,7 @@ goes_on s y shares is whole same bound = record {
   case = refl;
   workers = same_workers s y shares is whole same;
   retains = still_retain s.shares shares same;
-  cancels = same_map (λ (t : Shard). t.cancel) (λ t u is. is.cancel) s.shares shares same;
+  cancels = same_map (λ (t : Shard). t.terms.cancel) (λ t u is. ap (λ x. x.cancel) is.terms) s.shares shares same;
   bound = bound;
 }
 

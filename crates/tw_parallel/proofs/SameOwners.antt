@@ -33,7 +33,7 @@ same_owners s t is still case same = λ r known.
     let alike = AllZip-get_or (λ (x y : Share). IsSameShare x.shard y.shard) s.shares t.shares k no_share no_share same within in
     let own : owns b.shard r ≡ true = ap (λ rs. has rs r) alike.routers ∙ own_at s is r known a there in
     let stands = all_at (Stands (simulation t.case) (who t.board) (board_of t.board)) (map place_of t.shares) k (place_of b) (get_map place_of t.shares k b there_later) still.ruled.rule.each in
-    let worker : b.shard.worker ≡ 0 + k = worker_there 0 (workers t.board) k t.shares b still.order there_later in
+    let worker : b.shard.terms.worker ≡ 0 + k = worker_there 0 (workers t.board) k t.shares b still.order there_later in
     let nodes = ap (λ (c : Case). c.net.nodes) case in
-    let named = eqb-true (who t.board r) b.shard.worker (sym (stands.owns r (omega (arith, known, nodes))) ∙ own) in
+    let named = eqb-true (who t.board r) b.shard.terms.worker (sym (stands.owns r (omega (arith, known, nodes))) ∙ own) in
     omega (arith, named, worker)

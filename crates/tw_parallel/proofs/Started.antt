@@ -32,7 +32,7 @@ use Rattle.tw_table.specs.Shares.{Share, shares_of}
 
 -- shares that retain their events were opened to
 first_retains : (case : Case) (whose : ℕ → ℕ) (time k : ℕ) (retains : Bool) (cancel : Cancel) (ts : List Share) → 0 < length ts → AreSharesAt case whose time k retains cancel ts
-    → AllByRecursion (λ (t : Share). t.shard.retains ≡ true) ts → retains ≡ true
+    → AllByRecursion (λ (t : Share). t.shard.terms.retains ≡ true) ts → retains ≡ true
 first_retains case whose time k retains cancel [] some at all = absurd (omega arith)
 first_retains case whose time k retains cancel (t ∷ ts) some at all = sym at.0.shard.retains_are ∙ all.0
 

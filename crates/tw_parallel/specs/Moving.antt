@@ -34,9 +34,9 @@ AreListed s = (r : ℕ) → r < s.case.net.nodes → IsListed r s.board
 
 -- two shards of one case, which retain their events alike and take back at the same time
 pub record AreLike (s t : Shard) : Type 0 where
-  pub case : t.case ≡ s.case
-  pub retains : t.retains ≡ s.retains
-  pub cancel : t.cancel ≡ s.cancel
+  pub case : t.terms.case ≡ s.terms.case
+  pub retains : t.terms.retains ≡ s.terms.retains
+  pub cancel : t.terms.cancel ≡ s.terms.cancel
 
 -- router r may go from the shard at one place to that at another, which does not have it
 pub record MayPass (r from to : ℕ) (ss : List Shard) : Type 0 where

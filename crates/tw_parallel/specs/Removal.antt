@@ -34,7 +34,7 @@ pub record IsRoomFor (s : Sim) (room : RunRoom) : Type 0 where
 -- router r may leave this shard of the case, where it stands at a time of the run
 pub record MayLeave (case : Case) (time r : ℕ) (retains : Bool) (s : Shard) : Type 0 where
   pub own : owns s r ≡ true
-  pub case_is : s.case ≡ case
-  pub retains_are : retains ≡ true → s.retains ≡ true
+  pub case_is : s.terms.case ≡ case
+  pub retains_are : retains ≡ true → s.terms.retains ≡ true
   pub ahead : (timeline s r).ahead ≡ []
   pub run : history (timeline s r) ≡ own_run case r time

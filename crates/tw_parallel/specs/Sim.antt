@@ -32,14 +32,14 @@ AreOf case t = (r : ℕ) → owns t.shard r ≡ true → r < case.net.nodes
 pub record AreSetAlike (shares : List Share) : Type 0 where
   pub retains : Bool
   pub cancel : Cancel
-  pub each : AllByRecursion (λ t. (t.shard.retains ≡ retains) × (t.shard.cancel ≡ cancel)) shares
+  pub each : AllByRecursion (λ t. (t.shard.terms.retains ≡ retains) × (t.shard.terms.cancel ≡ cancel)) shares
 
 -- it keeps the rule
 pub record IsSim (s : Sim) : Type 0 where
   -- there are workers
   pub some : 0 < workers s.board
   -- each has its share, by rising worker
-  pub order : map (λ t. t.shard.worker) s.shares ≡ range_with_len 0 (workers s.board)
+  pub order : map (λ t. t.shard.terms.worker) s.shares ≡ range_with_len 0 (workers s.board)
   pub ruled : IsRuled s.case s.board s.shares
   -- of routers of the case alone
   pub known : AllByRecursion (AreOf s.case) s.shares
@@ -50,11 +50,11 @@ pub record IsSim (s : Sim) : Type 0 where
 
 -- all routers retain their committed events
 abbrev pub RetainsEvents : Sim → Type 0
-RetainsEvents s = AllByRecursion (λ t. t.shard.retains ≡ true) s.shares
+RetainsEvents s = AllByRecursion (λ t. t.shard.terms.retains ≡ true) s.shares
 
 -- when each worker takes back what undone events have sent
 abbrev pub cancels_of : Sim → List Cancel
-cancels_of s = map (λ t. t.shard.cancel) s.shares
+cancels_of s = map (λ t. t.shard.terms.cancel) s.shares
 
 -- the committed events of all routers, in the order of events
 abbrev pub committed_events : Sim → List Event

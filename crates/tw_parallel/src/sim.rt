@@ -217,7 +217,7 @@ impl<'a> Sim<'a> {
 
 /// Whether the routers of all these shards retain their committed events.
 fn do_all_retain(shards: &[Shard<'_>]) -> bool
-    ensures { result ≡ list_all (λ s. s.retains) shards.now }
+    ensures { result ≡ list_all (λ s. s.terms.retains) shards.now }
 {
     shards.iter().all(|shard| shard.retains())
 }

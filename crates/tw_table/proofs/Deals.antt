@@ -59,11 +59,11 @@ long_map f (x ∷ xs) = let s = long_map f xs in omega arith
 
 -- a shard with a hand is in the share at its place
 worker_at : (shards : List Shard) (hands : List Hand) (n k : ℕ) (s : Shard) → n ≤ length (shares_of shards hands) → k < length (take n shards) → s ≡ get_or (take n shards) k s
-    → map worker_of (take 1 (drop k (shares_of shards hands))) ≡ s.worker ∷ []
+    → map worker_of (take 1 (drop k (shares_of shards hands))) ≡ s.terms.worker ∷ []
 worker_at shards hands zero k s most h there = absurd (let none = ap length (take_none shards) in omega arith)
 worker_at [] hands (suc n) k s most h there = absurd (omega arith)
 worker_at (u ∷ shards) [] (suc n) k s most h there = absurd (omega arith)
-worker_at (u ∷ shards) (g ∷ hands) (suc n) zero s most h there = ap (λ (v : Shard). v.worker ∷ []) (sym there)
+worker_at (u ∷ shards) (g ∷ hands) (suc n) zero s most h there = ap (λ (v : Shard). v.terms.worker ∷ []) (sym there)
 worker_at (u ∷ shards) (g ∷ hands) (suc n) (suc k) s most h there = worker_at shards hands n k s (omega arith) (omega arith) there
 
 -- there are no more shares than shards
@@ -97,7 +97,7 @@ pub record IsDealt (Of : Pass Board View → Type 0) (n bound stop : ℕ) (owner
 
 pub next_worker : (Of : Pass Board View → Type 0) (n bound stop : ℕ) (owners : Option (List ℕ)) (halted : Bool) (shards : List Shard) (hands : List Hand) (k : ℕ) (p : Pass Board View) (seats : List Seat) (s : Shard)
     → IsDealt Of n bound stop owners halted (shares_of shards hands) k p seats → length (shares_of shards hands) ≡ n → k < length (take n shards) → s ≡ get_or (take n shards) k s
-    → map worker_of (take 1 (view p).shares) ≡ s.worker ∷ []
+    → map worker_of (take 1 (view p).shares) ≡ s.terms.worker ∷ []
 next_worker Of n bound stop owners halted shards hands k p seats s is many h there = ap (λ l. map worker_of (take 1 l)) is.left ∙ worker_at shards hands n k s (omega arith) h there
 
 map_append : {X Y : Type 0} (f : X → Y) (xs ys : List X) → map f (xs ++ ys) ≡ map f xs ++ map f ys

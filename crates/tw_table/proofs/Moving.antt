@@ -154,15 +154,15 @@ later_other None n r w k ne = refl
 later_other (Some list) n r w k ne = get_or-set_other list r k w n ne
 
 module _ (case : Case) (is : IsCase case) (r : ℕ) (x : Board) (s t s2 t2 : Share) (moved : HasMoved r x s t s2 t2) (stands_s : Stands (simulation case) (who x) (board_of x) (place_of s))
-    (stands_t : Stands (simulation case) (who x) (board_of x) (place_of t)) (in_range : r < case.net.nodes) (was : who x r ≡ s.shard.worker) where
+    (stands_t : Stands (simulation case) (who x) (board_of x) (place_of t)) (in_range : r < case.net.nodes) (was : who x r ≡ s.shard.terms.worker) where
   abbrev y : Board
-  y = moved_board r t.shard.worker x
+  y = moved_board r t.shard.terms.worker x
 
   law : IsLawful (simulation case)
   law = lawful case is
 
   mine : owns s.shard r ≡ true
-  mine = stands_s.owns r in_range ∙ eq-eqb (who x r) s.shard.worker was
+  mine = stands_s.owns r in_range ∙ eq-eqb (who x r) s.shard.terms.worker was
 
   gone : owns s2.shard r ≡ false
   gone = moved.left.routers r ∙ and_not_self (owns s.shard r) r
@@ -267,8 +267,8 @@ module _ (case : Case) (is : IsCase case) (r : ℕ) (x : Board) (s t s2 t2 : Sha
   is_moved =
       let m = simulation case in
       record {
-        worker_from = moved.left.terms.worker;
-        worker_to = moved.came.terms.worker;
+        worker_from = ap (λ x. x.worker) moved.left.terms;
+        worker_to = ap (λ x. x.worker) moved.came.terms;
         left = gone;
         came = here;
         owns_from = left_other;
@@ -322,9 +322,9 @@ module _ (case : Case) (is : IsCase case) (r : ℕ) (x : Board) (s t s2 t2 : Sha
         done_to = done_came;
         bound_from = (let a = moved.left.bound in let b = stands_s.bound in omega arith);
         bound_to = bound_came.0;
-        report = get_or-set_same x.reports t.shard.worker (Some x.bound) None stands_t.worker;
-        reports = λ v ne. get_or-set_other x.reports t.shard.worker v (Some x.bound) None ne;
-        workers = length-set x.reports t.shard.worker (Some x.bound);
+        report = get_or-set_same x.reports t.shard.terms.worker (Some x.bound) None stands_t.worker;
+        reports = λ v ne. get_or-set_other x.reports t.shard.terms.worker v (Some x.bound) None ne;
+        workers = length-set x.reports t.shard.terms.worker (Some x.bound);
         bound = refl;
         stop = refl;
       }
@@ -337,9 +337,9 @@ map_set f (z ∷ xs) zero x = refl
 map_set f (z ∷ xs) (suc i) x = ap (λ l. f z ∷ l) (map_set f xs i x)
 
 module _ (case : Case) (x : Board) (shares : List Share) (ruled : IsRuled case x shares) (r i j : ℕ) (s t s2 t2 : Share) (first : slice_get shares i ≡ Some s) (second : slice_get shares j ≡ Some t)
-    (other : s.shard.worker ≡ t.shard.worker → ⊥) (listed : IsListed r x) (in_range : r < case.net.nodes) (was : who x r ≡ s.shard.worker) (moved : HasMoved r x s t s2 t2) where
+    (other : s.shard.terms.worker ≡ t.shard.terms.worker → ⊥) (listed : IsListed r x) (in_range : r < case.net.nodes) (was : who x r ≡ s.shard.terms.worker) (moved : HasMoved r x s t s2 t2) where
   abbrev z : Board
-  z = moved_board r t.shard.worker x
+  z = moved_board r t.shard.terms.worker x
 
   abbrev shares2 : List Share
   shares2 = set (set shares i s2) j t2
@@ -358,13 +358,13 @@ module _ (case : Case) (x : Board) (shares : List Share) (ruled : IsRuled case x
       (all_at (Stands (simulation case) (who x) (board_of x)) ps j (place_of t) second_place ruled.rule.each) in_range was
 
   same_workers : workers z ≡ workers x
-  same_workers = length-set x.reports t.shard.worker (Some x.bound)
+  same_workers = length-set x.reports t.shard.terms.worker (Some x.bound)
 
-  now : who z r ≡ t.shard.worker
-  now = later_is x.owners (workers z) r t.shard.worker listed
+  now : who z r ≡ t.shard.terms.worker
+  now = later_is x.owners (workers z) r t.shard.terms.worker listed
 
   others : (k : ℕ) → (k ≡ r → ⊥) → who z k ≡ who x k
-  others k ne = later_other x.owners (workers z) r t.shard.worker k ne ∙ ap (λ n. worker_for x.owners n k) same_workers
+  others k ne = later_other x.owners (workers z) r t.shard.terms.worker k ne ∙ ap (λ n. worker_for x.owners n k) same_workers
 
   places : map place_of shares2 ≡ set (set ps i (place_of s2)) j (place_of t2)
   places = map_set place_of (set shares i s2) j t2 ∙ ap (λ l. set l j (place_of t2)) (map_set place_of shares i s2)
@@ -378,9 +378,9 @@ module _ (case : Case) (x : Board) (shares : List Share) (ruled : IsRuled case x
   ruled_moves = record {
     is_case = ruled.is_case;
     cases = (
-        let case_s = all_at (λ (u : Share). u.shard.case ≡ case) shares i s first ruled.cases in
-        let case_t = all_at (λ (u : Share). u.shard.case ≡ case) shares j t second ruled.cases in
-        all_set (λ u. u.shard.case ≡ case) (set shares i s2) j t2 (all_set (λ u. u.shard.case ≡ case) shares i s2 ruled.cases (moved.left.terms.case ∙ case_s)) (moved.came.terms.case ∙ case_t));
+        let case_s = all_at (λ (u : Share). u.shard.terms.case ≡ case) shares i s first ruled.cases in
+        let case_t = all_at (λ (u : Share). u.shard.terms.case ≡ case) shares j t second ruled.cases in
+        all_set (λ u. u.shard.terms.case ≡ case) (set shares i s2) j t2 (all_set (λ u. u.shard.terms.case ≡ case) shares i s2 ruled.cases (ap (λ x. x.case) moved.left.terms ∙ case_s)) (ap (λ x. x.case) moved.came.terms ∙ case_t));
     count = length-set (set shares i s2) j t2 ∙ (length-set shares i s2 ∙ (ruled.count ∙ sym same_workers));
     rule = moved_rule;
   }

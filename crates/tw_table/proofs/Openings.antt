@@ -66,11 +66,11 @@ module _ (case : Case) (is : IsCase case) (n : ℕ) where
   new_places k [] new = tt
   new_places k (s ∷ shares) new = (new_place k s new.0, new_places (suc k) shares new.1)
 
-  new_cases : (k : ℕ) (shares : List Share) → AreNew case k n shares → AllByRecursion (λ s. s.shard.case ≡ case) shares
+  new_cases : (k : ℕ) (shares : List Share) → AreNew case k n shares → AllByRecursion (λ s. s.shard.terms.case ≡ case) shares
   new_cases k [] new = tt
   new_cases k (s ∷ shares) new = (new.0.case_is, new_cases (suc k) shares new.1)
 
-pub in_order : (case : Case) (n k : ℕ) (shares : List Share) → AreNew case k n shares → map (λ s. s.shard.worker) shares ≡ range_with_len k (length shares)
+pub in_order : (case : Case) (n k : ℕ) (shares : List Share) → AreNew case k n shares → map (λ s. s.shard.terms.worker) shares ≡ range_with_len k (length shares)
 in_order case n k [] new = refl
 in_order case n k (s ∷ shares) new =
     let next : suc k ≡ k + 1 = omega arith in

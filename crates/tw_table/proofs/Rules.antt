@@ -54,7 +54,7 @@ any_order case x ss ts same ruled =
     let old = ruled.rule in
     record {
       is_case = ruled.is_case;
-      cases = same.each (λ s. s.shard.case ≡ case) ruled.cases;
+      cases = same.each (λ s. s.shard.terms.case ≡ case) ruled.cases;
       count = sym (counted ts) ∙ (same.sums (λ s. 1) ∙ (counted ss ∙ ruled.count));
       rule = record {
         board = old.board;
@@ -73,12 +73,12 @@ any_order case x ss ts same ruled =
 
 -- both, as the rule has them
 pub record IsGiven (x : Board) (s : Share) (y : Board) (t : Share) : Type 0 where
-  pub case : t.shard.case ≡ s.shard.case
+  pub case : t.shard.terms.case ≡ s.shard.terms.case
   pub owners : y.owners ≡ x.owners
-  pub give : MayGive (simulation s.shard.case) (who x) (board_of x) (place_of s) (board_of y) (place_of t)
+  pub give : MayGive (simulation s.shard.terms.case) (who x) (board_of x) (place_of s) (board_of y) (place_of t)
 
 -- its own part
-pub own_part : (x y : Board) (s t : Share) → t.shard.case ≡ s.shard.case → MayGive (simulation s.shard.case) (who x) (board_of x) (place_of s) (board_of y) (place_of t)
+pub own_part : (x y : Board) (s t : Share) → t.shard.terms.case ≡ s.shard.terms.case → MayGive (simulation s.shard.terms.case) (who x) (board_of x) (place_of s) (board_of y) (place_of t)
     → MayBeGiven x s y t
 own_part x y s t same give = record {
   case = same;
@@ -105,7 +105,7 @@ none_before case is e b (x ∷ xs) h some =
     ]
 
 -- the whole of it, from its own part and what its visits have left
-pub with_visits : (x y : Board) (s t : Share) → IsCase s.shard.case → rule.IsBoard (simulation s.shard.case) (board_of x) → IsBoard y → IsVisitedBy s.shard.worker x y
+pub with_visits : (x y : Board) (s t : Share) → IsCase s.shard.terms.case → rule.IsBoard (simulation s.shard.terms.case) (board_of x) → IsBoard y → IsVisitedBy s.shard.terms.worker x y
     → MayBeGiven x s y t → IsGiven x s y t
 with_visits x y s t is board whole visited may = record {
   case = may.case;
@@ -120,8 +120,8 @@ with_visits x y s t is board whole visited may = record {
       board = record {
         stop = whole.stop;
         reported = whole.reported;
-        late = λ e some. none_before s.shard.case is e y.bound (all_mail y) (all_of_mail (λ m. y.bound ≤ m.event.time) y.mail whole.late) some;
-        suit = λ e some. elim (cases_lt (times_among (simulation s.shard.case) e (all_mail x)) (times_among (simulation s.shard.case) e (all_mail y))) [
+        late = λ e some. none_before s.shard.terms.case is e y.bound (all_mail y) (all_of_mail (λ m. y.bound ≤ m.event.time) y.mail whole.late) some;
+        suit = λ e some. elim (cases_lt (times_among (simulation s.shard.terms.case) e (all_mail x)) (times_among (simulation s.shard.terms.case) e (all_mail y))) [
           | inl more ↦ may.suit e more
           | inr none ↦ board.suit e (omega arith)
         ];
@@ -158,9 +158,9 @@ whole_of case x shares ruled = record {
 
 -- before the bound of the exchange, and each earlier time, what a worker's routers have handled is the one-thread run
 pub run_before : (case : Case) (x : Board) (shares : List Share) (i t : ℕ) (s : Share) → IsRuled case x shares → slice_get shares i ≡ Some s → t ≤ x.bound
-    → IsRunBefore (simulation s.shard.case) t (place_of s)
+    → IsRunBefore (simulation s.shard.terms.case) t (place_of s)
 run_before case x shares i t s ruled there le =
-    let same : s.shard.case ≡ case = all_at (λ (z : Share). z.shard.case ≡ case) shares i s there ruled.cases in
+    let same : s.shard.terms.case ≡ case = all_at (λ (z : Share). z.shard.terms.case ≡ case) shares i s there ruled.cases in
     subst (λ (c : Case). IsRunBefore (simulation c) t (place_of s)) (sym same)
     (before_of (simulation case) (lawful case ruled.is_case) (who x) (numbered case ruled.is_case) (board_of x) (map place_of shares) i t (place_of s) ruled.rule
     (get_map place_of shares i s there) le)

@@ -21,15 +21,15 @@ one_read f d n [] e = absurd (let l = ap length e in omega arith)
 one_read f d n (x ∷ xs) e = ap (λ l. get_or l 0 n) e
 
 abbrev pub worker_of : Share → ℕ
-worker_of s = s.shard.worker
+worker_of s = s.shard.terms.worker
 
 -- the worker of a seat that has met the exchange is one of its workers
 pub there : (worker : ℕ) (shares : List Share) (x : Board) → map worker_of shares ≡ worker ∷ [] → IsMet shares x → worker < workers x
 there worker [] x e met = absurd (let l = ap length e in omega arith)
 there worker (s ∷ shares) x e met =
     let stands = met.ruled.rule.each.0 in
-    let is : s.shard.worker ≡ worker = ap (λ l. get_or l 0 0) e in
-    let within : s.shard.worker < workers x = stands.worker in
+    let is : s.shard.terms.worker ≡ worker = ap (λ l. get_or l 0 0) e in
+    let within : s.shard.terms.worker < workers x = stands.worker in
     omega arith
 
 -- a seat stands for a worker

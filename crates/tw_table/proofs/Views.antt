@@ -164,14 +164,14 @@ takes port v begun empty x items views (inr is) at =
     )
 
 -- what a worker may give keeps the rule with what its visits have left
-is_given : (case : Case) (x y : Board) (s t : Share) (others : List Share) → IsRuled case x (s ∷ others) → IsBoard y → IsVisitedBy s.shard.worker x y → MayBeGiven x s y t
+is_given : (case : Case) (x y : Board) (s t : Share) (others : List Share) → IsRuled case x (s ∷ others) → IsBoard y → IsVisitedBy s.shard.terms.worker x y → MayBeGiven x s y t
     → IsGiven x s y t
 is_given case x y s t others ruled board visited may =
     let same = sym ruled.cases.0 in
     with_visits x y s t (subst IsCase same ruled.is_case) (subst (λ (c : Case). rule.IsBoard (simulation c) (board_of x)) same ruled.rule.board) board visited may
 
 -- a worker that has the exchange and its share gives both back
-pub gives : (port : ℕ) (v : View) (x y : Board) (s t : Share) → v.opening ≡ false → v.held ≡ x ∷ [] → v.shares ≡ s ∷ [] → IsBoard y → IsVisitedBy s.shard.worker x y
+pub gives : (port : ℕ) (v : View) (x y : Board) (s t : Share) → v.opening ≡ false → v.held ≡ x ∷ [] → v.shares ≡ s ∷ [] → IsBoard y → IsVisitedBy s.shard.terms.worker x y
     → MayBeGiven x s y t → Pushes Holds 1 port v y (λ w. w ≡ given t v y)
 gives port v x y s t begun has mine board visited may items views room (inl none) at = absurd (begun_not_first views port v begun none.1 at)
 gives port v x y s t begun has mine board visited may items views room (inr is) at =

@@ -7,12 +7,12 @@ use Rattle.tw_table.specs.Shares.{Share}
 
 -- worker k's share, of so many: its shard as it opens, which takes back at once or late, and an empty hand
 pub record IsNew (case : Case) (k workers : ℕ) (s : Share) : Type 0 where
-  pub core_is : (stop : ℕ) → shard_core stop s.shard ≡ opening_core case k workers s.shard.cancel stop
-  pub case_is : s.shard.case ≡ case
-  pub worker : s.shard.worker ≡ k
+  pub core_is : (stop : ℕ) → shard_core stop s.shard ≡ opening_core case k workers s.shard.terms.cancel stop
+  pub case_is : s.shard.terms.case ≡ case
+  pub worker : s.shard.terms.worker ≡ k
   -- it has the routers of the case that are this worker's
   pub owns_are : (r : ℕ) → owns s.shard r ≡ (nat_lt r case.net.nodes && (owner workers r == k))
-  pub count : s.shard.workers ≡ workers
+  pub count : s.shard.terms.workers ≡ workers
   pub mail : s.mail ≡ []
   pub unsent : s.unsent ≡ []
 

@@ -38,7 +38,7 @@ no_share = record { shard = no_shard; mail = []; unsent = [] }
 -- a worker's share, as the rule sees it
 abbrev pub place_of : Share → Place Event
 place_of s = record {
-  worker = s.shard.worker;
+  worker = s.shard.terms.worker;
   owns = owns s.shard;
   history = (shard_core 0 s.shard).history;
   pending = s.shard.pending;
@@ -49,7 +49,7 @@ place_of s = record {
   past = (shard_core 0 s.shard).past;
   room = (shard_core 0 s.shard).room;
   bound = s.shard.bound;
-  cancel = s.shard.cancel;
+  cancel = s.shard.terms.cancel;
   mail = s.mail;
   unsent = s.unsent;
 }
@@ -62,7 +62,7 @@ board_of x = record { mail = all_mail x; reports = x.reports; bound = x.bound; s
 pub record IsRuled (case : Case) (x : Board) (shares : List Share) : Type 0 where
   pub is_case : IsCase case
   -- all shards keep this case
-  pub cases : AllByRecursion (λ s. s.shard.case ≡ case) shares
+  pub cases : AllByRecursion (λ s. s.shard.terms.case ≡ case) shares
   -- there are as many shares as workers
   pub count : length shares ≡ workers x
   pub rule : Rule (simulation case) (who x) (board_of x) (map place_of shares)
@@ -85,15 +85,15 @@ module _ (case : Case) (e : Event) where
 -- the worker that took the exchange x, and left the share s, may leave the share t with the exchange y, which it has visited
 pub record MayBeGiven (x : Board) (s : Share) (y : Board) (t : Share) : Type 0 where
   -- its shard keeps the same case, and is the same worker's
-  pub case : t.shard.case ≡ s.shard.case
-  pub worker : t.shard.worker ≡ s.shard.worker
+  pub case : t.shard.terms.case ≡ s.shard.terms.case
+  pub worker : t.shard.terms.worker ≡ s.shard.terms.worker
   -- its place stands as it reported
-  pub stands : Stands (simulation s.shard.case) (who x) (board_of y) (place_of t)
+  pub stands : Stands (simulation s.shard.terms.case) (who x) (board_of y) (place_of t)
   -- what it has less went to the mail, and what it has more came from there
-  pub moved : (e : Event) → wanted s.shard.case e t + there s.shard.case e s + (mailed_back s.shard.case e y + mailed s.shard.case e x)
-      ≡ wanted s.shard.case e s + there s.shard.case e t + (mailed s.shard.case e y + mailed_back s.shard.case e x)
+  pub moved : (e : Event) → wanted s.shard.terms.case e t + there s.shard.terms.case e s + (mailed_back s.shard.terms.case e y + mailed s.shard.terms.case e x)
+      ≡ wanted s.shard.terms.case e s + there s.shard.terms.case e t + (mailed s.shard.terms.case e y + mailed_back s.shard.terms.case e x)
   -- what it added to the mail suits its receiver
-  pub suit : (e : Event) → mailed s.shard.case e x + mailed_back s.shard.case e x < mailed s.shard.case e y + mailed_back s.shard.case e y → (simulation s.shard.case).suits e ≡ true
+  pub suit : (e : Event) → mailed s.shard.terms.case e x + mailed_back s.shard.terms.case e x < mailed s.shard.terms.case e y + mailed_back s.shard.terms.case e y → (simulation s.shard.terms.case).suits e ≡ true
   -- no commit is taken back
   pub done : (r : ℕ) → (place_of s).done r ≤ (place_of t).done r
 

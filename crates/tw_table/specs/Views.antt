@@ -22,7 +22,7 @@ took v x = record v { seen = x.bound; held = x ∷ [] }
 
 -- once it has given the exchange back, and its share beside it
 abbrev pub given : Share → View → Board → View
-given s v x = record v { shares = s ∷ []; seen = x.bound; halted = x.halted; was_halted = v.halted; report = report_of s.shard.worker x; held = [] }
+given s v x = record v { shares = s ∷ []; seen = x.bound; halted = x.halted; was_halted = v.halted; report = report_of s.shard.terms.worker x; held = [] }
 
 -- with the first of its shares alone
 abbrev pub with_first : View → View
@@ -110,7 +110,7 @@ pub record IsVisitedBy (worker : ℕ) (x y : Board) : Type 0 where
 -- the seat, without the exchange, of a worker that has seen this bound and left the exchange halted or not
 pub record IsWaiting (worker bound : ℕ) (halted : Bool) (v : View) : Type 0 where
   pub begun : v.opening ≡ false
-  pub share : map (λ s. s.shard.worker) v.shares ≡ worker ∷ []
+  pub share : map (λ s. s.shard.terms.worker) v.shares ≡ worker ∷ []
   pub seen : v.seen ≡ bound
   pub left : v.halted ≡ halted
   pub empty : v.held ≡ []
@@ -118,6 +118,6 @@ pub record IsWaiting (worker bound : ℕ) (halted : Bool) (v : View) : Type 0 wh
 -- the seat of a worker, with the exchange
 pub record IsHolding (worker : ℕ) (v : View) : Type 0 where
   pub begun : v.opening ≡ false
-  pub share : map (λ s. s.shard.worker) v.shares ≡ worker ∷ []
+  pub share : map (λ s. s.shard.terms.worker) v.shares ≡ worker ∷ []
   pub one : map (λ x. workers x) v.held ≡ v.workers ∷ []
   pub owners_are : (taken v).owners ≡ v.owners

@@ -130,7 +130,7 @@ impl Table {
         ensures bound { bound_at result ≡ (exchange_of held).bound }
         ensures halted { halted_at result ≡ (exchange_of held).halted }
         ensures was_halted { was_halted_at result ≡ halted_of held }
-        ensures report { report_at result ≡ report_of (share_of held).shard.worker (exchange_of held) }
+        ensures report { report_at result ≡ report_of (share_of held).shard.terms.worker (exchange_of held) }
         ensures stop { stop_at result ≡ stop_of held }
     {
         let Held {
@@ -266,7 +266,7 @@ fn lay<M: Outcome<Laid, View> + Lesson<Laid, View>, R: Wait>(
 fn deal(queue: &Queue, pass: &mut Ticket, worker: u32, bound: u64, halted: bool) -> Seat
     requires queue { IsPassOf queue.now pass.old }
     requires begun { (view pass.old).opening ≡ false }
-    requires first { map (λ s. s.shard.worker) (take 1 (view pass.old).shares) ≡ worker ∷ [] }
+    requires first { map (λ s. s.shard.terms.worker) (take 1 (view pass.old).shares) ≡ worker ∷ [] }
     requires seen { (view pass.old).seen ≡ bound }
     requires left { (view pass.old).halted ≡ halted }
     requires empty { (view pass.old).held ≡ [] }

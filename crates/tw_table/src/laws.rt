@@ -19,7 +19,7 @@ ghost use Rattle.tw_table.specs.Shares.{IsRuled, Share, board_of, place_of};
 pub fn new_is_ruled()
     ensures ruled { (case : Case) (stop : ℕ) (shares : List Share) → IsCase case → 0 < length shares → AreNew case 0 (length shares) shares
         → IsRuled case (new_board (length shares) 0 stop) shares }
-    ensures order { (case : Case) (shares : List Share) → AreNew case 0 (length shares) shares → map (λ s. s.shard.worker) shares ≡ range_with_len 0 (length shares) }
+    ensures order { (case : Case) (shares : List Share) → AreNew case 0 (length shares) shares → map (λ s. s.shard.terms.worker) shares ≡ range_with_len 0 (length shares) }
 {}
 
 /// What `visit` does to an exchange, where each message deposited is for a router that has a worker, is a
@@ -34,7 +34,7 @@ pub fn visits_are_exact()
 /// the one-thread run has, before the bound of the exchange and each earlier time.
 pub fn shares_are_the_run()
     ensures { (case : Case) (x : Board) (shares : List Share) (i t : ℕ) (s : Share) → IsRuled case x shares → slice_get shares i ≡ Some s → t ≤ x.bound
-        → IsRunBefore (simulation s.shard.case) t (place_of s) }
+        → IsRunBefore (simulation s.shard.terms.case) t (place_of s) }
 {}
 
 /// A router goes from one worker's share to another's with all that is its own, its messages in the hand and
@@ -42,10 +42,10 @@ pub fn shares_are_the_run()
 /// all routers is the same but for the order of its lists.
 pub fn routers_may_move()
     ensures ruled { (case : Case) (x : Board) (shares : List Share) (r i j : ℕ) (s t s2 t2 : Share) → IsRuled case x shares → slice_get shares i ≡ Some s → slice_get shares j ≡ Some t
-        → (s.shard.worker ≡ t.shard.worker → ⊥) → IsListed r x → r < case.net.nodes → who x r ≡ s.shard.worker → HasMoved r x s t s2 t2
-        → IsRuled case (moved_board r t.shard.worker x) (slice_set (slice_set shares i s2) j t2) }
+        → (s.shard.terms.worker ≡ t.shard.terms.worker → ⊥) → IsListed r x → r < case.net.nodes → who x r ≡ s.shard.terms.worker → HasMoved r x s t s2 t2
+        → IsRuled case (moved_board r t.shard.terms.worker x) (slice_set (slice_set shares i s2) j t2) }
     ensures same { (case : Case) (x : Board) (shares : List Share) (r i j : ℕ) (s t s2 t2 : Share) → IsRuled case x shares → slice_get shares i ≡ Some s → slice_get shares j ≡ Some t
-        → (s.shard.worker ≡ t.shard.worker → ⊥) → IsListed r x → r < case.net.nodes → who x r ≡ s.shard.worker → HasMoved r x s t s2 t2
+        → (s.shard.terms.worker ≡ t.shard.terms.worker → ⊥) → IsListed r x → r < case.net.nodes → who x r ≡ s.shard.terms.worker → HasMoved r x s t s2 t2
         → IsSameMachine (simulation case) (assembled (board_of x) (map place_of shares))
-        (assembled (board_of (moved_board r t.shard.worker x)) (map place_of (slice_set (slice_set shares i s2) j t2))) }
+        (assembled (board_of (moved_board r t.shard.terms.worker x)) (map place_of (slice_set (slice_set shares i s2) j t2))) }
 {}

@@ -16,7 +16,7 @@ use tw_sim::Signed;
 impl Seat {
     /// The worker whose seat it is.
     pub fn worker(&self) -> u32
-        ensures { result ≡ (share_at self.now).shard.worker }
+        ensures { result ≡ (share_at self.now).shard.terms.worker }
     {
         self.worker
     }
@@ -45,8 +45,8 @@ impl Held {
     /// as `NoRouter` where a message of `out` is for a router that no worker has. After a refusal and for want of
     /// memory `out` comes back, and nothing has changed.
     pub fn visit(&mut self, out: Vec<Signed<Event>>, report: Option<u64>) -> Result<Visit, Back>
-        ensures board { OnOk result (exchange_of self.new ≡ visited (share_of self.old).shard.worker out.items report (exchange_of self.old)) }
-        ensures mail { IfOk result (λ visit. visit.mail.items ≡ handed (share_of self.old).shard.worker out.items (exchange_of self.old)) }
+        ensures board { OnOk result (exchange_of self.new ≡ visited (share_of self.old).shard.terms.worker out.items report (exchange_of self.old)) }
+        ensures mail { IfOk result (λ visit. visit.mail.items ≡ handed (share_of self.old).shard.terms.worker out.items (exchange_of self.old)) }
         ensures bound { IfOk result (λ visit. visit.bound ≡ (exchange_of self.new).bound) }
         ensures halted { IfOk result (λ visit. visit.halted ≡ (exchange_of self.old).halted) }
         ensures there { IsErrAnd result (λ back. back.why ≡ or_memory.Fault NoWorker) → ⊥ }
@@ -80,9 +80,9 @@ impl Held {
         requires dealt { (out : List (ASigned AnEvent)) × AreDealt (exchange_of self.old).owners (workers (exchange_of self.old)) out parcels.old }
         requires empty { mail.old.items ≡ [] }
         ensures board { OnOk result ((out : List (ASigned AnEvent)) → AreDealt (exchange_of self.old).owners (workers (exchange_of self.old)) out parcels.old
-            → exchange_of self.new ≡ visited (share_of self.old).shard.worker out report (exchange_of self.old)) }
+            → exchange_of self.new ≡ visited (share_of self.old).shard.terms.worker out report (exchange_of self.old)) }
         ensures mail { OnOk result ((out : List (ASigned AnEvent)) → AreDealt (exchange_of self.old).owners (workers (exchange_of self.old)) out parcels.old
-            → mail.new.items ≡ handed (share_of self.old).shard.worker out (exchange_of self.old)) }
+            → mail.new.items ≡ handed (share_of self.old).shard.terms.worker out (exchange_of self.old)) }
         ensures empty { OnOk result (NoneDealt parcels.new) }
         ensures bound { IfOk result (λ told. told.bound ≡ (exchange_of self.new).bound) }
         ensures halted { IfOk result (λ told. told.halted ≡ (exchange_of self.old).halted) }

@@ -18,14 +18,7 @@ use Rattle.tw_workers.specs.declared.working.Leaving.{Leaving}
 use Rattle.tw_workers.specs.declared.working.Leaving.TheVariants as leaving
 
 same_again : (a b c : Shard) → IsSameShare a b → IsSameShare b c → IsSameShare a c
-same_again a b c first then = record {
-  case = then.case ∙ first.case;
-  worker = then.worker ∙ first.worker;
-  workers = then.workers ∙ first.workers;
-  routers = then.routers ∙ first.routers;
-  retains = then.retains ∙ first.retains;
-  cancel = then.cancel ∙ first.cancel;
-}
+same_again a b c first then = record { terms = then.terms ∙ first.terms; routers = then.routers ∙ first.routers }
 
 -- one that left a seat had left the one before
 pub left_again : (s : Share) (t : Table) (before seat after : Seat) (why : Leaving) → IsLaterSeat t before seat → IsLeft s t seat after why → IsLeft s t before after why
@@ -177,7 +170,7 @@ module _ {W : Type 0} (share : W → Share) (stop : W → ℕ) where
 module _ {W : Type 0} (share : W → Share) where
   stay : (t : Table) (seats : List Seat) → AllByRecursion (IsSeatOf t) seats → AllZip (IsLaterSeat t) seats seats
   stay t [] h = tt
-  stay t (s ∷ seats) h = (record { seat = h.0; stop = refl; bound = omega arith; same = record { case = refl; worker = refl; workers = refl; routers = refl; retains = refl; cancel = refl } }, stay t seats h.1)
+  stay t (s ∷ seats) h = (record { seat = h.0; stop = refl; bound = omega arith; same = record { terms = refl; routers = refl } }, stay t seats h.1)
 
   -- workers that took no turn have left as they were
   pub have_stayed : (t : Table) (before after : List Seat) (were are : List W) (why : Option EndCause) → after ≡ before → are ≡ were → why ≡ Some cause.Memory

@@ -54,13 +54,13 @@ module _ (w : Warp) (is : IsWarp w) where
   pub have_all : HaveAll w.case w.shards
   have_all = record {
     some = is.workers;
-    cases = λ r known. ap (λ (s : Shard). s.case) (same_shard r known) ∙ (is.shares (worker_with w r) (has_worker w is r)).case;
+    cases = λ r known. ap (λ (s : Shard). s.terms.case) (same_shard r known) ∙ (is.shares (worker_with w r) (has_worker w is r)).case;
     own = λ r known. ap (λ s. share.owns s r) (same_shard r known) ∙ own_there r known;
   }
 
   pub retain_all : RetainAll w.case w.shards
   retain_all = record {
-    retains = λ r known. ap (λ (s : Shard). s.retains) (same_shard r known) ∙ (is.shares (worker_with w r) (has_worker w is r)).retains;
+    retains = λ r known. ap (λ (s : Shard). s.terms.retains) (same_shard r known) ∙ (is.shares (worker_with w r) (has_worker w is r)).retains;
     falling = λ r. subst (λ (h : ℕ → List Event). IsFalling (simulation w.case) (h r)) (sym histories) (is.good.falling r);
   }
 

@@ -14,5 +14,5 @@ pub back_behind : (called back : Shard) (kept flight : List (Signed Event)) → 
 back_behind called back kept flight put taken = λ i. behind (put i) (taken i)
 
 -- what may come is received
-pub may_come : (s : Shard) (x : Signed Event) (stop : ℕ) → refusing s x.event ≡ Ok tt → receiving stop s x ≡ Ok (after_arrival (simulation s.case) (shard_core stop s) x)
-may_come s x stop welcome = ap (λ o. result_and o (Ok (after_arrival (simulation s.case) (shard_core stop s) x))) welcome
+pub may_come : (s : Shard) (x : Signed Event) (stop : ℕ) → refusing s x.event ≡ Ok tt → receiving stop s x ≡ Ok (after_arrival (simulation s.terms.case) (shard_core stop s) x)
+may_come s x stop welcome = ap (λ o. result_and o (Ok (after_arrival (simulation s.terms.case) (shard_core stop s) x))) welcome

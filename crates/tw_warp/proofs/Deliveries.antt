@@ -141,8 +141,8 @@ module _ (w : Warp) (is : IsWarp w) (k : ℕ) (within : k < length w.shards) whe
     pub same : IsSameShare (shard_at w k) s
     pub none : s.outgoing ≡ []
 
-  same_cancel : (s : Shard) → IsBackFrom s → s.cancel ≡ w.cancel
-  same_cancel s back = back.same.cancel ∙ (is.shares k within).cancel
+  same_cancel : (s : Shard) → IsBackFrom s → s.terms.cancel ≡ w.cancel
+  same_cancel s back = ap (λ x. x.cancel) back.same.terms ∙ (is.shares k within).cancel
 
   -- the machine with that shard
   next_good : (s : Shard) (flight : List (Signed Event)) → IsBackFrom s → s.bound ≡ w.bound → IsRising (simulation w.case) s.held → IsOwn (simulation w.case) (λ r. worker_with w r == k) (shard_core w.stop s)
@@ -219,10 +219,10 @@ module _ (w : Warp) (is : IsWarp w) (k : ℕ) (within : k < length w.shards) whe
   }
 
   -- the messages on their way are there still, and what goes out stands behind them
-  pub longer : (at s : Shard) (x : Signed Event) (flight : List (Signed Event)) → after_arrival (simulation at.case) (shard_core w.stop (behind at w.flight)) x ≡ shard_core w.stop (behind s flight)
+  pub longer : (at s : Shard) (x : Signed Event) (flight : List (Signed Event)) → after_arrival (simulation at.terms.case) (shard_core w.stop (behind at w.flight)) x ≡ shard_core w.stop (behind s flight)
       → length w.flight ≤ length flight
   longer at s x flight came =
-      let m = simulation at.case in
+      let m = simulation at.terms.case in
       let C = shard_core w.stop (behind at w.flight) in
       let bare : Core Event = record C { flight = [] } in
       let back = (after_arrival m bare x).flight in
@@ -235,19 +235,19 @@ module _ (w : Warp) (is : IsWarp w) (k : ℕ) (within : k < length w.shards) whe
   -- the same, as the code tells it
   pub goes_home : (place j : ℕ) → suc j ≡ place → (x : Signed Event) (at s : Shard) (flight : List (Signed Event)) → message_at w.flight place ≡ Some x → worker_with w x.event.dst ≡ k
       → at ≡ shard_at w k → IsSameShare at s → s.outgoing ≡ at.outgoing
-      → after_arrival (simulation at.case) (shard_core w.stop (behind at w.flight)) x ≡ shard_core w.stop (behind s flight) → IsDelivered place j s flight
+      → after_arrival (simulation at.terms.case) (shard_core w.stop (behind at w.flight)) x ≡ shard_core w.stop (behind s flight) → IsDelivered place j s flight
   goes_home place j next x at s flight message mine there same out came =
       delivered place j next x s flight message mine (came_from at s there same out)
       (ap (λ case. after_arrival (simulation case) (shard_core w.stop (lent w k)) x) (sym (is.shares k within).case)
-      ∙ subst (λ a. after_arrival (simulation a.case) (shard_core w.stop (behind a w.flight)) x ≡ shard_core w.stop (behind s flight)) there came)
+      ∙ subst (λ a. after_arrival (simulation a.terms.case) (shard_core w.stop (behind a w.flight)) x ≡ shard_core w.stop (behind s flight)) there came)
 
   pub stops_short : (place : ℕ) (x : Signed Event) (at s : Shard) (flight : List (Signed Event)) → message_at w.flight place ≡ Some x → worker_with w x.event.dst ≡ k
       → at ≡ shard_at w k → IsSameShare at s → s.outgoing ≡ at.outgoing
-      → IsRolledBack (simulation at.case) x.event (shard_core w.stop (behind at w.flight)) (shard_core w.stop (behind s flight)) → IsCut place s flight
+      → IsRolledBack (simulation at.terms.case) x.event (shard_core w.stop (behind at w.flight)) (shard_core w.stop (behind s flight)) → IsCut place s flight
   stops_short place x at s flight message mine there same out h =
       cut_short place x s flight message mine (came_from at s there same out)
       (subst (λ case. IsRolledBack (simulation case) x.event (shard_core w.stop (lent w k)) (shard_core w.stop (behind s flight))) (is.shares k within).case
-      (subst (λ a. IsRolledBack (simulation a.case) x.event (shard_core w.stop (behind a w.flight)) (shard_core w.stop (behind s flight))) there h))
+      (subst (λ a. IsRolledBack (simulation a.terms.case) x.event (shard_core w.stop (behind a w.flight)) (shard_core w.stop (behind s flight))) there h))
 
 -- a message found has a place from 1 on, within the messages on their way
 pub place_there : (flight : List (Signed Event)) (place : ℕ) (x : Signed Event) → message_at flight place ≡ Some x → (0 < place) × (place - 1 < length flight)

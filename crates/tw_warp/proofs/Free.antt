@@ -81,7 +81,7 @@ module _ (w : Warp) (is : IsWarp w) (r : ℕ) where
       λ newer oldest same. subst (λ b. b ≤ oldest.time) (sym bound) (last_from w.bound newer oldest (subst (AllByRecursion (λ e. w.bound ≤ e.time)) same ahead))
 
   -- nothing is held for it
-  free_release : CallTakesNone (simulation w.case) Release r (warp_core w) → from (simulation s.case) r s.held ≡ []
+  free_release : CallTakesNone (simulation w.case) Release r (warp_core w) → from (simulation s.terms.case) r s.held ≡ []
   free_release none =
       let m = simulation w.case in
       let within = has_worker w is r in

@@ -90,27 +90,27 @@ module _ (front : List (Signed Event)) where
 
   handling_blind : (stop r : ℕ) → IsBlindTo (λ s. handling stop s r)
   handling_blind stop r s xs =
-      let m = simulation s.case in
+      let m = simulation s.terms.case in
       let C = shard_core stop (behind s xs) in
       ap (λ o. if owns s r then o else Err NotMine) (handle_fronted front m C r (first_pending m C r)) ∙ own_fronted front (owns s r) (handle m C r (first_pending m C r))
 
   undoing_blind : (stop r : ℕ) → IsBlindTo (λ s. undoing stop s r)
   undoing_blind stop r s xs =
-      let m = simulation s.case in
+      let m = simulation s.terms.case in
       let C = shard_core stop (behind s xs) in
       ap (λ o. if owns s r then o else Err NotMine) (undo_fronted front m C r (C.history r)) ∙ own_fronted front (owns s r) (undo m C r (C.history r))
 
   committing_blind : (stop r : ℕ) → IsBlindTo (λ s. committing stop s r)
-  committing_blind stop r s xs = let m = simulation s.case in let C = shard_core stop (behind s xs) in own_fronted front (owns s r) (Ok (with_commit m C r))
+  committing_blind stop r s xs = let m = simulation s.terms.case in let C = shard_core stop (behind s xs) in own_fronted front (owns s r) (Ok (with_commit m C r))
 
   releasing_blind : (stop r : ℕ) → IsBlindTo (λ s. releasing stop s r)
   releasing_blind stop r s xs =
-      let m = simulation s.case in
+      let m = simulation s.terms.case in
       let C = shard_core stop (behind s xs) in
       ap (λ D. if owns s r then Ok D else Err NotMine) (release_fronted front m C r) ∙ own_fronted front (owns s r) (Ok (with_release m C r))
 
   widening_blind : (stop r : ℕ) → IsBlindTo (λ s. widening stop s r)
-  widening_blind stop r s xs = let m = simulation s.case in let C = shard_core stop (behind s xs) in own_fronted front (owns s r) (Ok (with_room m C r))
+  widening_blind stop r s xs = let m = simulation s.terms.case in let C = shard_core stop (behind s xs) in own_fronted front (owns s r) (Ok (with_room m C r))
 
   pub calling_blind : (call : RouterCall) (stop r : ℕ) → IsBlindTo (λ s. calling call stop s r)
   calling_blind Handle stop r = handling_blind stop r
@@ -140,16 +140,16 @@ module _ (front : List (Signed Event)) where
     )
 
     -- the same of a message that came
-    pub came : (x : Signed Event) → after_arrival (simulation s.case) (shard_core stop (behind s xs)) x ≡ shard_core stop called
-        → after_arrival (simulation s.case) (shard_core stop (behind s all)) x ≡ shard_core stop (behind back (front ++ ys))
+    pub came : (x : Signed Event) → after_arrival (simulation s.terms.case) (shard_core stop (behind s xs)) x ≡ shard_core stop called
+        → after_arrival (simulation s.terms.case) (shard_core stop (behind s all)) x ≡ shard_core stop (behind back (front ++ ys))
     came x h =
-        let m = simulation s.case in
+        let m = simulation s.terms.case in
         ap (λ f. after_arrival m (shard_core stop (behind s f)) x) (sym was) ∙ (arrival-front m (shard_core stop (behind s xs)) x front ∙ (ap (fronted front) h ∙ left))
 
-    pub rolled_back : (e : Event) → IsRolledBack (simulation s.case) e (shard_core stop (behind s xs)) (shard_core stop called)
-        → IsRolledBack (simulation s.case) e (shard_core stop (behind s all)) (shard_core stop (behind back (front ++ ys)))
+    pub rolled_back : (e : Event) → IsRolledBack (simulation s.terms.case) e (shard_core stop (behind s xs)) (shard_core stop called)
+        → IsRolledBack (simulation s.terms.case) e (shard_core stop (behind s all)) (shard_core stop (behind back (front ++ ys)))
     rolled_back e h =
-        let m = simulation s.case in (
+        let m = simulation s.terms.case in (
           h.0,
           subst (λ f. AreUndone m h.0 e (shard_core stop (behind s f)) (shard_core stop (behind back (front ++ ys)))) was
               (subst (λ D. AreUndone m h.0 e (shard_core stop (behind s (front ++ xs))) D) left (undone_fronted front m h.0 e (shard_core stop (behind s xs)) (shard_core stop called) h.1)),

@@ -104,7 +104,7 @@ module _ (w : Warp) (is : IsCase w.case) (k : ℕ) (within : k < length w.shards
       ])
 
   -- the machine with another shard of this worker is that shard beside the rest
-  pub joined : (s : Shard) (flight : List (Signed Event)) → s.bound ≡ w.bound → s.cancel ≡ w.cancel
+  pub joined : (s : Shard) (flight : List (Signed Event)) → s.bound ≡ w.bound → s.terms.cancel ≡ w.cancel
       → warp_core (with_shard w k s flight) ≡ whole (simulation w.case) (rest w k) (record (shard_core w.stop s) { flight = flight })
   joined s flight bound cancel =
       let m = simulation w.case in
@@ -127,7 +127,7 @@ module _ (w : Warp) (is : IsCase w.case) (k : ℕ) (within : k < length w.shards
       }
 
   -- and so is the machine as it stands
-  pub joined_now : (shard_at w k).bound ≡ w.bound → (shard_at w k).cancel ≡ w.cancel
+  pub joined_now : (shard_at w k).bound ≡ w.bound → (shard_at w k).terms.cancel ≡ w.cancel
       → warp_core w ≡ whole (simulation w.case) (rest w k) (record (shard_core w.stop (shard_at w k)) { flight = w.flight })
   joined_now bound cancel = ap (λ shards. warp_core (record w { shards = shards })) (sym (set_same w.shards k no_shard within)) ∙ joined (shard_at w k) w.flight bound cancel
 

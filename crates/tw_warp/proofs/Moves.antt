@@ -63,7 +63,7 @@ module _ (w : Warp) (is : IsWarp w) where
     pub now : warp_core w ≡ whole (simulation w.case) (rest w k) (shard_core w.stop (lent w k))
     now = joined_now w is.case k within (is.shares k within).bound (is.shares k within).cancel
 
-    pub later : (s : Shard) → s.bound ≡ w.bound → s.cancel ≡ w.cancel → warp_core (given_back w k s) ≡ whole (simulation w.case) (rest w k) (shard_core w.stop s)
+    pub later : (s : Shard) → s.bound ≡ w.bound → s.terms.cancel ≡ w.cancel → warp_core (given_back w k s) ≡ whole (simulation w.case) (rest w k) (shard_core w.stop s)
     later s bound cancel = joined w is.case k within (record s { outgoing = [] }) s.outgoing bound cancel
 
     -- the lent shard owns the routers of its worker that are there
@@ -167,8 +167,8 @@ module _ (w : Warp) (is : IsWarp w) where
         let share = is.shares k within in
         let own : owns s e.dst ≡ true = lent_owns e.dst mine ∙ lt-ltb e.dst w.case.net.nodes there in
         let soon : nat_lt e.time s.bound ≡ false = ap (nat_lt e.time) share.bound ∙ le-ltb e.time w.bound late in
-        let good : suits s.case.net e.dst e ≡ true = ap (λ case. suits case.net e.dst e) share.case ∙ suit in
-        welcome s.bound (owns s e.dst) (nat_lt e.time s.bound) (suits s.case.net e.dst e) own soon good
+        let good : suits s.terms.case.net e.dst e ≡ true = ap (λ case. suits case.net e.dst e) share.case ∙ suit in
+        welcome s.bound (owns s e.dst) (nat_lt e.time s.bound) (suits s.terms.case.net e.dst e) own soon good
 
     -- and it leaves the machine, the message aside, as its delivery does
     pub deliver_step : (j : ℕ) (x : Signed Event) (s : Shard) → slice_get w.flight j ≡ Some x → worker_with w x.event.dst ≡ k
@@ -211,13 +211,13 @@ next_is w is k s flight within same bound held own good counted =
         | inl here ↦ (
             let at : get_or (set w.shards k next) j no_shard ≡ next = ap (λ i. get_or (set w.shards k next) i no_shard) here ∙ get_or-set_same w.shards k next no_shard within in
             subst (IsShare (with_shard w k next flight) j) (sym at) (record {
-              case = same.case ∙ (is.shares k within).case;
-              worker = same.worker ∙ ((is.shares k within).worker ∙ sym here);
+              case = ap (λ x. x.case) same.terms ∙ (is.shares k within).case;
+              worker = ap (λ x. x.worker) same.terms ∙ ((is.shares k within).worker ∙ sym here);
               routers = λ r.
                   ap (λ rs. has rs r) same.routers ∙ ((is.shares k within).routers r ∙ (λ i. nat_lt r w.case.net.nodes && (owner (sym count i) r == sym here i)));
               bound = bound;
-              retains = same.retains ∙ (is.shares k within).retains;
-              cancel = same.cancel ∙ (is.shares k within).cancel;
+              retains = ap (λ x. x.retains) same.terms ∙ (is.shares k within).retains;
+              cancel = ap (λ x. x.cancel) same.terms ∙ (is.shares k within).cancel;
               outgoing = refl;
               held = held;
               own = own_as w.case j (length w.shards) (length (set w.shards k next)) (shard_core w.stop next) (sym count)

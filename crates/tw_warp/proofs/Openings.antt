@@ -133,12 +133,12 @@ module _ (w : Warp) (is : IsCase w.case) (some : 0 < length w.shards) (each : (k
         shares = λ k within.
             let at = each k within in
             record {
-              case = at.case_is;
-              worker = at.worker;
+              case = ap (λ x. x.case) at.terms;
+              worker = ap (λ x. x.worker) at.terms;
               routers = at.owns_are;
               bound = ap (λ (C : Core Event). C.bound) (at.core_is 0) ∙ sym bound;
-              retains = at.retains_are;
-              cancel = ap (λ (C : Core Event). C.cancel) (at.core_is 0);
+              retains = ap (λ x. x.retains) at.terms;
+              cancel = ap (λ x. x.cancel) at.terms;
               outgoing = ap (λ (C : Core Event). C.flight) (at.core_is 0);
               held = subst (λ (C : Core Event). IsRising event_before event_same C.held) (sym (at.core_is 0)) tt;
               own = subst (IsOwn m (λ r. worker_with w r == k)) (sym (at.core_is w.stop)) (record {

@@ -208,13 +208,13 @@ module _ (w : Warp) (is : IsWarp w) (k : ℕ) (within : k < length w.shards) whe
     none = back.outgoing ∙ (is.shares k within).outgoing
 
     here : IsSameShare (shard_at w k) s → IsSameShare (shard_at w k) (behind s flight)
-    here same = record { case = same.case; worker = same.worker; workers = same.workers; routers = same.routers; retains = same.retains; cancel = same.cancel }
+    here same = record { terms = same.terms; routers = same.routers }
 
     did : IsSameShare (shard_at w k) s → call (lent w k) ≡ Ok (shard_core w.stop (behind s flight)) → make (warp_core w) ≡ Ok (warp_core (given_back w k (behind s flight)))
     did same ok =
         outcome.made
         ∙ (ap (lift (simulation w.case) (rest w k)) ok
-        ∙ ap Ok (sym (later w is k within (behind s flight) (outcome.called (behind s flight) (here same) ok).bound (same.cancel ∙ (is.shares k within).cancel))))
+        ∙ ap Ok (sym (later w is k within (behind s flight) (outcome.called (behind s flight) (here same) ok).bound (ap (λ x. x.cancel) same.terms ∙ (is.shares k within).cancel))))
 
     go : (result : Result (Unit {0}) (OrMemory Refusal)) → IsBack call (shard_at w k) s flight result → IsWarp (with_shard w k s flight)
     go (Ok u) back = subst IsWarp (sym (back_again w is k within s flight none))

@@ -34,7 +34,7 @@ abbrev pub FreeAt : RouterCall → Shard → ℕ → Type 0
 FreeAt Handle s r = ⊥
 FreeAt Undo s r = ⊥
 FreeAt Commit s r = HasNothingToCommit s r
-FreeAt Release s r = from (simulation s.case) r s.held ≡ []
+FreeAt Release s r = from (simulation s.terms.case) r s.held ≡ []
 FreeAt Widen s r = (timeline s r).room < 2 ^ 63
 
 -- the shard's routers as a machine, to this stop, after a call at router r, or why it is refused

@@ -59,16 +59,16 @@ warp_core w = record {
 -- a shard as this worker's of the machine
 pub record IsShare (w : Warp) (k : ℕ) (s : Shard) : Type 0 where
   -- of the same case, and worker k's
-  pub case : s.case ≡ w.case
-  pub worker : s.worker ≡ k
+  pub case : s.terms.case ≡ w.case
+  pub worker : s.terms.worker ≡ k
   -- it has the routers of the case that are this worker's
   pub routers : (r : ℕ) → share.owns s r ≡ (nat_lt r w.case.net.nodes && (worker_with w r == k))
   -- with the bound of all
   pub bound : s.bound ≡ w.bound
   -- its routers retain their committed events
-  pub retains : s.retains ≡ true
+  pub retains : s.terms.retains ≡ true
   -- what undone events have sent is taken back when it is for all
-  pub cancel : s.cancel ≡ w.cancel
+  pub cancel : s.terms.cancel ≡ w.cancel
   -- what its routers have sent is in flight
   pub outgoing : s.outgoing ≡ []
   -- what is held is in order

@@ -42,7 +42,7 @@ pub(crate) fn call_on(
     stop: u64,
 ) -> Result<(), OrMemory<Refusal>>
     requires stop { stop ≤ LATEST }
-    requires retains { shard.old.retains ≡ true }
+    requires retains { shard.old.terms.retains ≡ true }
     ensures ok { OnOk result (calling call stop (behind shard.old flight.old) router ≡ Ok (shard_core stop (behind shard.new flight.new))) }
     ensures refused { (f : ARefusal) → IsErrOf result (or_memory.Fault f) ↔ (calling call stop (behind shard.old flight.old) router ≡ Err f) }
     ensures err { OnErr result (shard.new ≡ shard.old) }
@@ -66,7 +66,7 @@ fn make(
     stop: u64,
 ) -> Result<(), OrMemory<Refusal>>
     requires stop { stop ≤ LATEST }
-    requires retains { shard.old.retains ≡ true }
+    requires retains { shard.old.terms.retains ≡ true }
     ensures ok { OnOk result (calling call stop shard.old router ≡ Ok (shard_core stop shard.new)) }
     ensures refused { (f : ARefusal) → IsErrOf result (or_memory.Fault f) ↔ (calling call stop shard.old router ≡ Err f) }
     ensures err { OnErr result (shard.new ≡ shard.old) }
@@ -89,9 +89,9 @@ pub(crate) fn deliver_on(
     message: Signed<Event>,
 ) -> Result<(), OrMemory<Refusal>>
     requires { refusing shard.old message.event ≡ Ok tt }
-    ensures ok { (stop : ℕ) → OnOk result (after_arrival (simulation shard.old.case) (shard_core stop (behind shard.old flight.old)) message ≡ shard_core stop (behind shard.new flight.new)) }
+    ensures ok { (stop : ℕ) → OnOk result (after_arrival (simulation shard.old.terms.case) (shard_core stop (behind shard.old flight.old)) message ≡ shard_core stop (behind shard.new flight.new)) }
     ensures memory { OnErr result (IsErrOf result or_memory.Memory) }
-    ensures err { OnErr result ((stop : ℕ) → IsRolledBack (simulation shard.old.case) message.event
+    ensures err { OnErr result ((stop : ℕ) → IsRolledBack (simulation shard.old.terms.case) message.event
         (shard_core stop (behind shard.old flight.old)) (shard_core stop (behind shard.new flight.new))) }
     ensures outgoing { shard.new.outgoing ≡ shard.old.outgoing }
     ensures same { IsSameShare shard.old shard.new }

@@ -73,22 +73,22 @@ module _ {S : Type 0} (m : Simulation S Event) (law : IsLawful m) (r limit : ℕ
           (found.0, record { there = let there = is.there in omega arith; for_it = is.for_it; early = is.early })
 
 -- what is held for it is not before the least of that
-held_told : (r : ℕ) (s : Shard) → IsLawful (simulation s.case) → (e : Event) → 0 < times (simulation s.case) e s.held → e.src ≡ r
-    → IsSomeAnd (reduce min (map (λ x. x.time) (from (simulation s.case) r s.held))) (λ time. time ≤ e.time)
+held_told : (r : ℕ) (s : Shard) → IsLawful (simulation s.terms.case) → (e : Event) → 0 < times (simulation s.terms.case) e s.held → e.src ≡ r
+    → IsSomeAnd (reduce min (map (λ x. x.time) (from (simulation s.terms.case) r s.held))) (λ time. time ≤ e.time)
 held_told r s law e held sender =
-    let m = simulation s.case in
+    let m = simulation s.terms.case in
     let there = times-filter-yes m law (λ x. x.src == r) e s.held (eq-eqb e.src r sender) in
     events_told m law (from m r s.held) e (omega arith)
 
-pub none_awaited : (r stop : ℕ) (s : Shard) → IsLawful (simulation s.case) → reduce min (map (λ x. x.time) (from (simulation s.case) r s.held)) ≡ None
+pub none_awaited : (r stop : ℕ) (s : Shard) → IsLawful (simulation s.terms.case) → reduce min (map (λ x. x.time) (from (simulation s.terms.case) r s.held)) ≡ None
     → AreAwaitedFrom r stop s
 none_awaited r stop s law none e held sender = absurd (subst (λ o. IsSomeAnd o (λ time. time ≤ e.time)) none (held_told r s law e held sender))
 
-pub early_awaited : (r stop least limit : ℕ) (s : Shard) → IsLawful (simulation s.case)
-    → reduce min (map (λ x. x.time) (from (simulation s.case) r s.held)) ≡ Some least → limit ≤ least → limit ≤ stop
+pub early_awaited : (r stop least limit : ℕ) (s : Shard) → IsLawful (simulation s.terms.case)
+    → reduce min (map (λ x. x.time) (from (simulation s.terms.case) r s.held)) ≡ Some least → limit ≤ least → limit ≤ stop
     → list_any (is_before r limit) s.pending ≡ true → AreAwaitedFrom r stop s
 early_awaited r stop least limit s law told sooner until found e held sender =
-    let m = simulation s.case in
+    let m = simulation s.terms.case in
     let late : least ≤ e.time = subst (λ o. IsSomeAnd o (λ time. time ≤ e.time)) told (held_told r s law e held sender) in
     let cause = early_there m law r limit s.pending found in
     let is = cause.1 in
@@ -97,26 +97,26 @@ early_awaited r stop least limit s law told sooner until found e held sender =
 
 -- ---- a router takes back what is held for it
 
-module _ (n stop : ℕ) (s t : Shard) (law : IsLawful (simulation s.case)) (same : IsSameShare s t) (own : owns s n ≡ true)
+module _ (n stop : ℕ) (s t : Shard) (law : IsLawful (simulation s.terms.case)) (same : IsSameShare s t) (own : owns s n ≡ true)
     (done : releasing 0 s n ≡ Ok (shard_core 0 t)) where
-  released : shard_core 0 t ≡ with_release (simulation s.case) (shard_core 0 s) n
+  released : shard_core 0 t ≡ with_release (simulation s.terms.case) (shard_core 0 s) n
   released =
-      let less : Result (Core Event) Refusal = Ok (with_release (simulation s.case) (shard_core 0 s) n) in
+      let less : Result (Core Event) Refusal = Ok (with_release (simulation s.terms.case) (shard_core 0 s) n) in
       let at_own : less ≡ Ok (shard_core 0 t) = sym (ap (λ b. if b then less else Err NotMine) own) ∙ done in
       cc at_own
 
   -- what is held still was held, and others sent it
-  held_before : (e : Event) → 0 < times (simulation t.case) e t.held → (not (e.src == n) ≡ true) × (0 < times (simulation s.case) e s.held)
+  held_before : (e : Event) → 0 < times (simulation t.terms.case) e t.held → (not (e.src == n) ≡ true) × (0 < times (simulation s.terms.case) e s.held)
   held_before e held =
-      let m = simulation s.case in
-      let there = subst (λ (xs : List Event). 0 < times m e xs) (ap (λ C. C.held) released) (subst (λ (c : Case). 0 < times (simulation c) e t.held) same.case held) in
+      let m = simulation s.terms.case in
+      let there = subst (λ (xs : List Event). 0 < times m e xs) (ap (λ C. C.held) released) (subst (λ (c : Case). 0 < times (simulation c) e t.held) (ap (λ x. x.case) same.terms) held) in
       in_filter m law (λ x. not (x.src == n)) e s.held there
 
   awaited_still : (e : Event) → IsAwaited stop s e → IsAwaited stop t e
   awaited_still e is = record {
     cause = is.cause;
-    pending = subst (λ (c : Case). 0 < times (simulation c) is.cause t.pending) (sym same.case)
-        (subst (λ (xs : List Event). 0 < times (simulation s.case) is.cause xs) (sym (ap (λ C. C.pending) released)) is.pending);
+    pending = subst (λ (c : Case). 0 < times (simulation c) is.cause t.pending) (sym (ap (λ x. x.case) same.terms))
+        (subst (λ (xs : List Event). 0 < times (simulation s.terms.case) is.cause xs) (sym (ap (λ C. C.pending) released)) is.pending);
     sender = is.sender;
     sooner = is.sooner;
     until = is.until;

@@ -17,16 +17,16 @@ use Rattle.tw_table.specs.Shares.{Share, place_of}
 use Rattle.tw_workers.proofs.Places.{place_after}
 use Rattle.tw_workers.specs.Work.{IsAtWork, PreservesShare}
 
-pub kept_committed : (stop r : ℕ) (s : Share) (t : Shard) → IsAtWork stop s → IsSameShare s.shard t → shard_core stop t ≡ with_commit (simulation s.shard.case) (shard_core stop s.shard) r
+pub kept_committed : (stop r : ℕ) (s : Share) (t : Shard) → IsAtWork stop s → IsSameShare s.shard t → shard_core stop t ≡ with_commit (simulation s.shard.terms.case) (shard_core stop s.shard) r
     → PreservesShare stop s (record s { shard = t })
 kept_committed stop r s t work same own =
-    let m = simulation s.shard.case in
+    let m = simulation s.shard.terms.case in
     let made : with_core (with_commit m (shard_core stop s.shard) r) (place_of s) ≡ place_of (record s { shard = t })
     = (λ i. with_core (sym own i) (place_of s)) ∙ sym (place_after stop s (record s { shard = t }) same refl refl) in
-    record { case = same.case; workers = same.workers; routers = same.routers; retaining = same.retains; cancel = same.cancel; place = subst (PreservesPlace m stop (place_of s)) made (keeps_commit m (lawful s.shard.case work.case) stop r (place_of s) work.place) }
+    record { shard = same; place = subst (PreservesPlace m stop (place_of s)) made (keeps_commit m (lawful s.shard.terms.case work.case) stop r (place_of s) work.place) }
 
 -- what one of its routers has handled before the bound is the run
-pub has_run : (stop : ℕ) (s : Share) → IsAtWork stop s → (r : ℕ) → owns s.shard r ≡ true → r < s.shard.case.net.nodes → FollowsRun s.shard r
+pub has_run : (stop : ℕ) (s : Share) → IsAtWork stop s → (r : ℕ) → owns s.shard r ≡ true → r < s.shard.terms.case.net.nodes → FollowsRun s.shard r
 has_run stop s work r mine known = record { falling = work.place.good.falling r; run = work.run r known mine }
 
 -- the routers that are not left have committed
@@ -63,7 +63,7 @@ behind n r rest zero got apart = absurd (apart (cc got))
 behind n r rest (suc j) got apart = (j, got)
 
 -- one more has committed
-pub done_more : (n : ℕ) (left rest : List ℕ) (s t : Shard) → left ≡ n ∷ rest → AreDone left s → IsSameShare s t → shard_core 0 t ≡ with_commit (simulation s.case) (shard_core 0 s) n → AreDone rest t
+pub done_more : (n : ℕ) (left rest : List ℕ) (s t : Shard) → left ≡ n ∷ rest → AreDone left s → IsSameShare s t → shard_core 0 t ≡ with_commit (simulation s.terms.case) (shard_core 0 s) n → AreDone rest t
 done_more n left rest s t is old same now r mine =
     let bound : t.bound ≡ s.bound = ap (λ C. C.bound) now in
     let done : (shard_core 0 t).done r ≡ put (shard_core 0 s).done n s.bound r = ap (λ C. C.done r) now in
@@ -76,16 +76,16 @@ done_more n left rest s t is old same now r mine =
     ]
 
 -- and nothing is sent
-pub same_outgoing : (r : ℕ) (s t : Shard) → shard_core 0 t ≡ with_commit (simulation s.case) (shard_core 0 s) r → t.outgoing ≡ s.outgoing
+pub same_outgoing : (r : ℕ) (s t : Shard) → shard_core 0 t ≡ with_commit (simulation s.terms.case) (shard_core 0 s) r → t.outgoing ≡ s.outgoing
 same_outgoing r s t now = ap (λ C. C.flight) now
 
 -- ---- what a commit answers for a router of its own
 
-commits : (stop : ℕ) (s : Shard) (r : ℕ) → owns s r ≡ true → committing stop s r ≡ Ok (with_commit (simulation s.case) (shard_core stop s) r)
-commits stop s r own = ap (λ b. if b then Ok (with_commit (simulation s.case) (shard_core stop s) r) else Err NotMine) own
+commits : (stop : ℕ) (s : Shard) (r : ℕ) → owns s r ≡ true → committing stop s r ≡ Ok (with_commit (simulation s.terms.case) (shard_core stop s) r)
+commits stop s r own = ap (λ b. if b then Ok (with_commit (simulation s.terms.case) (shard_core stop s) r) else Err NotMine) own
 
 pub no_refusal : (stop : ℕ) (s : Shard) (r : ℕ) (f : Refusal) → owns s r ≡ true → committing stop s r ≡ Err f → ⊥
 no_refusal stop s r f own refused = let done = commits stop s r own in cc (done, refused)
 
-pub ok_is : (stop : ℕ) (s t : Shard) (r : ℕ) → owns s r ≡ true → committing stop s r ≡ Ok (shard_core stop t) → shard_core stop t ≡ with_commit (simulation s.case) (shard_core stop s) r
+pub ok_is : (stop : ℕ) (s t : Shard) (r : ℕ) → owns s r ≡ true → committing stop s r ≡ Ok (shard_core stop t) → shard_core stop t ≡ with_commit (simulation s.terms.case) (shard_core stop s) r
 ok_is stop s t r own done = let made = commits stop s r own in cc (made, done)

@@ -126,16 +126,12 @@ is_own s x = owns s x.event.dst
 pub kept_sorted : (stop : ℕ) (s : Share) → IsAtWork stop s
     → PreservesShare stop s (record { shard = record s.shard { outgoing = [] }; mail = s.mail ++ filter (is_own s.shard) s.shard.outgoing; unsent = s.unsent ++ filter (λ x. not (is_own s.shard x)) s.shard.outgoing })
 kept_sorted stop s work =
-    let m = simulation s.shard.case in
-    let law = lawful s.shard.case work.case in
+    let m = simulation s.shard.terms.case in
+    let law = lawful s.shard.terms.case work.case in
     let own = filter (is_own s.shard) s.shard.outgoing in
     let rest = filter (λ x. not (is_own s.shard x)) s.shard.outgoing in
     record {
-      case = refl;
-      workers = refl;
-      routers = refl;
-      retaining = refl;
-      cancel = refl;
+      shard = record { terms = refl; routers = refl };
       place = keeps_moved m law stop (place_of s) (s.mail ++ own) (s.unsent ++ rest) [] work.place
           (λ e. (
           let a = messages-append m e s.mail own in
@@ -160,14 +156,10 @@ kept_sorted stop s work =
 pub kept_taken : (stop : ℕ) (s : Share) → IsAtWork stop s → s.mail ≡ [] → list_all (is_own s.shard) s.shard.outgoing ≡ true
     → PreservesShare stop s (record { shard = record s.shard { outgoing = [] }; mail = s.shard.outgoing; unsent = s.unsent })
 kept_taken stop s work none own =
-    let m = simulation s.shard.case in
-    let law = lawful s.shard.case work.case in
+    let m = simulation s.shard.terms.case in
+    let law = lawful s.shard.terms.case work.case in
     record {
-      case = refl;
-      workers = refl;
-      routers = refl;
-      retaining = refl;
-      cancel = refl;
+      shard = record { terms = refl; routers = refl };
       place = keeps_moved m law stop (place_of s) s.shard.outgoing s.unsent [] work.place
           (λ e. (let a = ap (messages m e) none in omega arith))
           (λ e. (let a = ap (antimessages m e) none in omega arith))
@@ -177,14 +169,10 @@ kept_taken stop s work none own =
 -- or sends it all
 pub kept_sent : (stop : ℕ) (s : Share) → IsAtWork stop s → PreservesShare stop s (record { shard = record s.shard { outgoing = [] }; mail = s.mail; unsent = s.unsent ++ s.shard.outgoing })
 kept_sent stop s work =
-    let m = simulation s.shard.case in
+    let m = simulation s.shard.terms.case in
     record {
-      case = refl;
-      workers = refl;
-      routers = refl;
-      retaining = refl;
-      cancel = refl;
-      place = keeps_moved m (lawful s.shard.case work.case) stop (place_of s) s.mail (s.unsent ++ s.shard.outgoing) [] work.place
+      shard = record { terms = refl; routers = refl };
+      place = keeps_moved m (lawful s.shard.terms.case work.case) stop (place_of s) s.mail (s.unsent ++ s.shard.outgoing) [] work.place
           (λ e. (let b = messages-append m e s.unsent s.shard.outgoing in omega arith))
           (λ e. (let b = antimessages-append m e s.unsent s.shard.outgoing in omega arith))
           (λ e h. work.place.waiting e (omega arith));

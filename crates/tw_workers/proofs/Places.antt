@@ -31,7 +31,7 @@ use Rattle.tw_workers.specs.Work.{IsAtWork, PreservesShare}
 -- it is the place whose routers have become another machine
 pub place_after : (stop : ℕ) (s t : Share) → IsSameShare s.shard t.shard → t.mail ≡ s.mail → t.unsent ≡ s.unsent → place_of t ≡ with_core (shard_core stop t.shard) (place_of s)
 place_after stop s t same mail unsent = λ i. record {
-  worker = same.worker i;
+  worker = (same.terms i).worker;
   owns = λ r. has (same.routers i) r;
   history = (shard_core 0 t.shard).history;
   pending = t.shard.pending;
@@ -42,13 +42,13 @@ place_after stop s t same mail unsent = λ i. record {
   past = (shard_core 0 t.shard).past;
   room = (shard_core 0 t.shard).room;
   bound = t.shard.bound;
-  cancel = t.shard.cancel;
+  cancel = t.shard.terms.cancel;
   mail = mail i;
   unsent = unsent i;
 }
 
 -- what is kept by nothing, and by one call after another
-keeps_same : (stop : ℕ) (s : Share) → IsAtWork stop s → PreservesPlace (simulation s.shard.case) stop (place_of s) (place_of s)
+keeps_same : (stop : ℕ) (s : Share) → IsAtWork stop s → PreservesPlace (simulation s.shard.terms.case) stop (place_of s) (place_of s)
 keeps_same stop s work = record {
   worker = refl;
   owns = refl;
@@ -60,19 +60,15 @@ keeps_same stop s work = record {
 }
 
 pub kept_same : (stop : ℕ) (s : Share) → IsAtWork stop s → PreservesShare stop s s
-kept_same stop s work = record { case = refl; workers = refl; routers = refl; retaining = refl; cancel = refl; place = keeps_same stop s work }
+kept_same stop s work = record { shard = record { terms = refl; routers = refl }; place = keeps_same stop s work }
 
 pub kept_both : (stop : ℕ) (s t u : Share) → PreservesShare stop s t → PreservesShare stop t u → PreservesShare stop s u
 kept_both stop s t u one two =
-    let m = simulation s.shard.case in
+    let m = simulation s.shard.terms.case in
     let first = one.place in
-    let second : PreservesPlace m stop (place_of t) (place_of u) = subst (λ (c : Case). PreservesPlace (simulation c) stop (place_of t) (place_of u)) one.case two.place in
+    let second : PreservesPlace m stop (place_of t) (place_of u) = subst (λ (c : Case). PreservesPlace (simulation c) stop (place_of t) (place_of u)) (ap (λ x. x.case) one.shard.terms) two.place in
     record {
-      case = two.case ∙ one.case;
-      workers = two.workers ∙ one.workers;
-      routers = two.routers ∙ one.routers;
-      retaining = two.retaining ∙ one.retaining;
-      cancel = two.cancel ∙ one.cancel;
+      shard = record { terms = two.shard.terms ∙ one.shard.terms; routers = two.shard.routers ∙ one.shard.routers };
       place = record {
         worker = second.worker ∙ first.worker;
         owns = second.owns ∙ first.owns;
@@ -85,21 +81,22 @@ kept_both stop s t u one two =
     }
 
 -- what its routers have handled before the bound stays the run
-run_kept : (stop : ℕ) (s t : Share) → IsAtWork stop s → PreservesShare stop s t → IsRunBefore (simulation s.shard.case) t.shard.bound (place_of t)
+run_kept : (stop : ℕ) (s t : Share) → IsAtWork stop s → PreservesShare stop s t → IsRunBefore (simulation s.shard.terms.case) t.shard.bound (place_of t)
 run_kept stop s t work kept =
-    let m = simulation s.shard.case in
+    let m = simulation s.shard.terms.case in
     subst (λ b. IsRunBefore m b (place_of t)) (sym kept.place.bound)
     (λ r l mine.
-    kept_before m (lawful s.shard.case work.case) stop s.shard.bound (place_of s) (place_of t) work.place work.place.late kept.place r
+    kept_before m (lawful s.shard.terms.case work.case) stop s.shard.bound (place_of s) (place_of t) work.place work.place.late kept.place r
     ∙ work.run r l (sym (ap (λ owns. owns r) kept.place.owns) ∙ mine))
 
 -- a worker stays at work
 pub work_kept : (stop : ℕ) (s t : Share) → IsAtWork stop s → PreservesShare stop s t → IsAtWork stop t
 work_kept stop s t work kept =
+    let same : t.shard.terms.case ≡ s.shard.terms.case = ap (λ x. x.case) kept.shard.terms in
     record {
-      case = subst IsCase (sym kept.case) work.case;
-      place = subst (λ (c : Case). IsPlace (simulation c) stop (place_of t)) (sym kept.case) kept.place.place;
-      run = subst (λ (c : Case). IsRunBefore (simulation c) t.shard.bound (place_of t)) (sym kept.case) (run_kept stop s t work kept);
+      case = subst IsCase (sym same) work.case;
+      place = subst (λ (c : Case). IsPlace (simulation c) stop (place_of t)) (sym same) kept.place.place;
+      run = subst (λ (c : Case). IsRunBefore (simulation c) t.shard.bound (place_of t)) (sym same) (run_kept stop s t work kept);
     }
 
 -- ---- messages of the hand
@@ -128,47 +125,47 @@ before_no a b h =
 -- a message in the hand is never refused
 pub welcome : (stop : ℕ) (s : Share) (x : Signed Event) (rest : List (Signed Event)) → IsAtWork stop s → s.mail ≡ x ∷ rest → refusing s.shard x.event ≡ Ok tt
 welcome stop s x rest work first =
-    let m = simulation s.shard.case in
-    let law = lawful s.shard.case work.case in
+    let m = simulation s.shard.terms.case in
+    let law = lawful s.shard.terms.case work.case in
     let there : slice_get s.mail 0 ≡ Some x = ap (λ l. slice_get l 0) first in
     let own : owns s.shard x.event.dst ≡ true = hand_is_own m law stop (place_of s) 0 x work.place there in
     let loose = hand_is_loose m law (place_of s) 0 x there in
     let late : s.shard.bound ≤ x.event.time = work.place.late x.event loose in
-    let suit : suits s.shard.case.net x.event.dst x.event ≡ true = work.place.good.suit x.event (omega arith) in
+    let suit : suits s.shard.terms.case.net x.event.dst x.event ≡ true = work.place.good.suit x.event (omega arith) in
     let not_late : nat_lt x.event.time s.shard.bound ≡ false = before_no x.event.time s.shard.bound late in
     rw own (rw not_late (rw suit refl))
 
 -- and so it is received
-may_come : (s : Shard) (x : Signed Event) (stop : ℕ) → refusing s x.event ≡ Ok tt → receiving stop s x ≡ Ok (after_arrival (simulation s.case) (shard_core stop s) x)
-may_come s x stop may = ap (λ o. result_and o (Ok (after_arrival (simulation s.case) (shard_core stop s) x))) may
+may_come : (s : Shard) (x : Signed Event) (stop : ℕ) → refusing s x.event ≡ Ok tt → receiving stop s x ≡ Ok (after_arrival (simulation s.terms.case) (shard_core stop s) x)
+may_come s x stop may = ap (λ o. result_and o (Ok (after_arrival (simulation s.terms.case) (shard_core stop s) x))) may
 
 pub arrived : (s t : Shard) (x : Signed Event) (stop : ℕ) → refusing s x.event ≡ Ok tt → receiving stop s x ≡ Ok (shard_core stop t)
-    → after_arrival (simulation s.case) (shard_core stop s) x ≡ shard_core stop t
+    → after_arrival (simulation s.terms.case) (shard_core stop s) x ≡ shard_core stop t
 arrived s t x stop may came =
-    let same : ◌≡◌ {A = Result (Core Event) Rejection} (Ok (after_arrival (simulation s.case) (shard_core stop s) x)) (Ok (shard_core stop t)) = sym (may_come s x stop may) ∙ came in
+    let same : ◌≡◌ {A = Result (Core Event) Rejection} (Ok (after_arrival (simulation s.terms.case) (shard_core stop s) x)) (Ok (shard_core stop t)) = sym (may_come s x stop may) ∙ came in
     cc same
 
 pub kept_received : (stop : ℕ) (s t : Share) (x : Signed Event) (rest : List (Signed Event)) → IsAtWork stop s → s.mail ≡ x ∷ rest → IsSameShare s.shard t.shard
-    → after_arrival (simulation s.shard.case) (shard_core stop s.shard) x ≡ shard_core stop t.shard → t.mail ≡ rest → t.unsent ≡ s.unsent → PreservesShare stop s t
+    → after_arrival (simulation s.shard.terms.case) (shard_core stop s.shard) x ≡ shard_core stop t.shard → t.mail ≡ rest → t.unsent ≡ s.unsent → PreservesShare stop s t
 kept_received stop s t x rest work first same came mail unsent =
-    let m = simulation s.shard.case in
+    let m = simulation s.shard.terms.case in
     let there : slice_get s.mail 0 ≡ Some x = ap (λ l. slice_get l 0) first in
     let left : remove s.mail 0 ≡ rest = ap (λ l. remove l 0) first in
     let mid : Share = record s { mail = rest } in
-    let keeps = keeps_receive m (lawful s.shard.case work.case) stop 0 (place_of s) x work.place there in
+    let keeps = keeps_receive m (lawful s.shard.terms.case work.case) stop 0 (place_of s) x work.place there in
     let arrived : with_core (after_arrival m (shard_core stop s.shard) x) (record (place_of s) { mail = remove s.mail 0 }) ≡ with_core (shard_core stop t.shard) (place_of mid)
     = λ i. with_core (came i) (record (place_of s) { mail = left i }) in
     let made = arrived ∙ sym (place_after stop mid t same mail unsent) in
-    record { case = same.case; workers = same.workers; routers = same.routers; retaining = same.retains; cancel = same.cancel; place = subst (PreservesPlace m stop (place_of s)) made keeps }
+    record { shard = same; place = subst (PreservesPlace m stop (place_of s)) made keeps }
 
 -- some of what it undoes is undone, and it is in the hand still
 pub kept_rolled_back : (stop : ℕ) (s t : Share) (x : Signed Event) (rest : List (Signed Event)) → IsAtWork stop s → s.mail ≡ x ∷ rest → IsSameShare s.shard t.shard
-    → IsRolledBack (simulation s.shard.case) x.event (shard_core stop s.shard) (shard_core stop t.shard) → t.mail ≡ s.mail → t.unsent ≡ s.unsent → PreservesShare stop s t
+    → IsRolledBack (simulation s.shard.terms.case) x.event (shard_core stop s.shard) (shard_core stop t.shard) → t.mail ≡ s.mail → t.unsent ≡ s.unsent → PreservesShare stop s t
 kept_rolled_back stop s t x rest work first same back mail unsent =
-    let m = simulation s.shard.case in
+    let m = simulation s.shard.terms.case in
     let there : slice_get s.mail 0 ≡ Some x = ap (λ l. slice_get l 0) first in
-    let keeps = keeps_roll_back m (lawful s.shard.case work.case) stop 0 (place_of s) x (shard_core stop t.shard) work.place there back in
-    record { case = same.case; workers = same.workers; routers = same.routers; retaining = same.retains; cancel = same.cancel; place = subst (PreservesPlace m stop (place_of s)) (sym (place_after stop s t same mail unsent)) keeps }
+    let keeps = keeps_roll_back m (lawful s.shard.terms.case work.case) stop 0 (place_of s) x (shard_core stop t.shard) work.place there back in
+    record { shard = same; place = subst (PreservesPlace m stop (place_of s)) (sym (place_after stop s t same mail unsent)) keeps }
 
 -- ---- a router handles
 
@@ -178,7 +175,7 @@ own_of stop r s t done =
     elim (cases_Bool (owns s r)) [
       | inl own ↦ own
       | inr other ↦
-          let m = simulation s.case in
+          let m = simulation s.terms.case in
           let refused : handling stop s r ≡ Err NotMine = ap (λ b. if b then handle m (shard_core stop s) r (first_pending m (shard_core stop s) r) else Err NotMine) other in
           absurd (cc (refused, done))
     ]
@@ -186,12 +183,12 @@ own_of stop r s t done =
 pub kept_handled : (stop r : ℕ) (s t : Share) → IsAtWork stop s → IsSameShare s.shard t.shard → handling stop s.shard r ≡ Ok (shard_core stop t.shard) → t.mail ≡ s.mail → t.unsent ≡ s.unsent
     → PreservesShare stop s t
 kept_handled stop r s t work same done mail unsent =
-    let m = simulation s.shard.case in
+    let m = simulation s.shard.terms.case in
     let next = handle m (shard_core stop s.shard) r (first_pending m (shard_core stop s.shard) r) in
     let own = own_of stop r s.shard t.shard done in
     let at_own : next ≡ Ok (shard_core stop t.shard) = sym (ap (λ b. if b then next else Err NotMine) own) ∙ done in
-    let keeps = keeps_handle m (lawful s.shard.case work.case) stop r (place_of s) (shard_core stop t.shard) work.place at_own in
-    record { case = same.case; workers = same.workers; routers = same.routers; retaining = same.retains; cancel = same.cancel; place = subst (PreservesPlace m stop (place_of s)) (sym (place_after stop s t same mail unsent)) keeps }
+    let keeps = keeps_handle m (lawful s.shard.terms.case work.case) stop r (place_of s) (shard_core stop t.shard) work.place at_own in
+    record { shard = same; place = subst (PreservesPlace m stop (place_of s)) (sym (place_after stop s t same mail unsent)) keeps }
 
 -- and where the least of all pending events is handled
 pub kept_least : (stop : ℕ) (s t : Share) → IsAtWork stop s → IsSameShare s.shard t.shard → handling_least stop s.shard ≡ Ok (shard_core stop t.shard) → t.mail ≡ s.mail → t.unsent ≡ s.unsent
@@ -206,7 +203,7 @@ own_full stop r s full =
     elim (cases_Bool (owns s r)) [
       | inl own ↦ own
       | inr other ↦
-          let m = simulation s.case in
+          let m = simulation s.terms.case in
           let refused : handling stop s r ≡ Err NotMine = ap (λ b. if b then handle m (shard_core stop s) r (first_pending m (shard_core stop s) r) else Err NotMine) other in
           absurd (cc (refused, full))
     ]
@@ -224,50 +221,42 @@ own_least time s e first full =
 pub kept_widened : (stop r : ℕ) (s : Share) (t : Shard) → IsAtWork stop s → IsSameShare s.shard t → owns s.shard r ≡ true → widening stop s.shard r ≡ Ok (shard_core stop t)
     → PreservesShare stop s (record s { shard = t })
 kept_widened stop r s t work same own done =
-    let m = simulation s.shard.case in
+    let m = simulation s.shard.terms.case in
     let wide : Result (Core Event) Refusal = Ok (with_room m (shard_core stop s.shard) r) in
     let at_own : wide ≡ Ok (shard_core stop t) = sym (ap (λ b. if b then wide else Err NotMine) own) ∙ done in
     let reached : with_room m (shard_core stop s.shard) r ≡ shard_core stop t = cc at_own in
     let made : with_core (with_room m (shard_core stop s.shard) r) (place_of s) ≡ place_of (record s { shard = t })
     = (λ i. with_core (reached i) (place_of s)) ∙ sym (place_after stop s (record s { shard = t }) same refl refl) in
     record {
-      case = same.case;
-      workers = same.workers;
-      routers = same.routers;
-      retaining = same.retains;
-      cancel = same.cancel;
-      place = subst (PreservesPlace m stop (place_of s)) made (keeps_widen m (lawful s.shard.case work.case) stop r (place_of s) work.place);
+      shard = same;
+      place = subst (PreservesPlace m stop (place_of s)) made (keeps_widen m (lawful s.shard.terms.case work.case) stop r (place_of s) work.place);
     }
 
 -- what is held for a router of its own is taken back
 pub kept_released : (stop r : ℕ) (s : Share) (t : Shard) → IsAtWork stop s → IsSameShare s.shard t → owns s.shard r ≡ true → releasing stop s.shard r ≡ Ok (shard_core stop t)
     → PreservesShare stop s (record s { shard = t })
 kept_released stop r s t work same own done =
-    let m = simulation s.shard.case in
+    let m = simulation s.shard.terms.case in
     let less : Result (Core Event) Refusal = Ok (with_release m (shard_core stop s.shard) r) in
     let at_own : less ≡ Ok (shard_core stop t) = sym (ap (λ b. if b then less else Err NotMine) own) ∙ done in
     let reached : with_release m (shard_core stop s.shard) r ≡ shard_core stop t = cc at_own in
     let made : with_core (with_release m (shard_core stop s.shard) r) (place_of s) ≡ place_of (record s { shard = t })
     = (λ i. with_core (reached i) (place_of s)) ∙ sym (place_after stop s (record s { shard = t }) same refl refl) in
     record {
-      case = same.case;
-      workers = same.workers;
-      routers = same.routers;
-      retaining = same.retains;
-      cancel = same.cancel;
-      place = subst (PreservesPlace m stop (place_of s)) made (keeps_release m (lawful s.shard.case work.case) stop r (place_of s) work.place);
+      shard = same;
+      place = subst (PreservesPlace m stop (place_of s)) made (keeps_release m (lawful s.shard.terms.case work.case) stop r (place_of s) work.place);
     }
 
 -- which is not refused
 pub no_release_refusal : (stop : ℕ) (s : Shard) (r : ℕ) (f : Refusal) → owns s r ≡ true → releasing stop s r ≡ Err f → ⊥
 no_release_refusal stop s r f own refused =
-    let done : releasing stop s r ≡ Ok (with_release (simulation s.case) (shard_core stop s) r) =
-    ap (λ b. if b then Ok (with_release (simulation s.case) (shard_core stop s) r) else Err NotMine) own in
+    let done : releasing stop s r ≡ Ok (with_release (simulation s.terms.case) (shard_core stop s) r) =
+    ap (λ b. if b then Ok (with_release (simulation s.terms.case) (shard_core stop s) r) else Err NotMine) own in
     cc (done, refused)
 
 -- it is not refused
 pub no_widening_refusal : (stop : ℕ) (s : Shard) (r : ℕ) (f : Refusal) → owns s r ≡ true → widening stop s r ≡ Err f → ⊥
 no_widening_refusal stop s r f own refused =
-    let done : widening stop s r ≡ Ok (with_room (simulation s.case) (shard_core stop s) r) =
-    ap (λ b. if b then Ok (with_room (simulation s.case) (shard_core stop s) r) else Err NotMine) own in
+    let done : widening stop s r ≡ Ok (with_room (simulation s.terms.case) (shard_core stop s) r) =
+    ap (λ b. if b then Ok (with_room (simulation s.terms.case) (shard_core stop s) r) else Err NotMine) own in
     cc (done, refused)

@@ -39,13 +39,13 @@ use Rattle.tw_workers.specs.Work.{IsAtWork, PreservesShare}
 
 -- its own share stands as it reported
 record IsHere (x : Board) (s : Share) : Type 0 where
-  pub is_case : IsCase s.shard.case
-  pub board : rule.IsBoard (simulation s.shard.case) (board_of x)
-  pub stands : Stands (simulation s.shard.case) (who x) (board_of x) (place_of s)
+  pub is_case : IsCase s.shard.terms.case
+  pub board : rule.IsBoard (simulation s.shard.terms.case) (board_of x)
+  pub stands : Stands (simulation s.shard.terms.case) (who x) (board_of x) (place_of s)
   -- and each router has a worker
-  pub routers : (r : ℕ) → r < s.shard.case.net.nodes → who x r < workers x
+  pub routers : (r : ℕ) → r < s.shard.terms.case.net.nodes → who x r < workers x
 
-here_at : (case : Case) (x : Board) (s : Share) → s.shard.case ≡ case → IsCase case → rule.IsBoard (simulation case) (board_of x)
+here_at : (case : Case) (x : Board) (s : Share) → s.shard.terms.case ≡ case → IsCase case → rule.IsBoard (simulation case) (board_of x)
     → Stands (simulation case) (who x) (board_of x) (place_of s) → ((r : ℕ) → r < case.net.nodes → who x r < workers x) → IsHere x s
 here_at case x s same is_case board stands routers = record {
   is_case = subst IsCase (sym same) is_case;
@@ -58,17 +58,17 @@ here : (x : Board) (s : Share) → IsMet (s ∷ []) x → IsHere x s
 here x s met = here_at met.case x s met.ruled.cases.0 met.ruled.is_case met.ruled.rule.board met.ruled.rule.each.0 met.ruled.rule.routers
 
 -- what was kept to a worker's stop was kept to the board's
-keeps_here : (x : Board) (stop : ℕ) (s q : Share) → x.stop ≡ stop → PreservesShare stop s q → PreservesPlace (simulation s.shard.case) (board_of x).stop (place_of s) (place_of q)
-keeps_here x stop s q same kept = subst (λ n. PreservesPlace (simulation s.shard.case) n (place_of s) (place_of q)) (sym same) kept.place
+keeps_here : (x : Board) (stop : ℕ) (s q : Share) → x.stop ≡ stop → PreservesShare stop s q → PreservesPlace (simulation s.shard.terms.case) (board_of x).stop (place_of s) (place_of q)
+keeps_here x stop s q same kept = subst (λ n. PreservesPlace (simulation s.shard.terms.case) n (place_of s) (place_of q)) (sym same) kept.place
 
 -- ---- without a visit
 
 pub stayed_given : (x y : Board) (stop : ℕ) (s q : Share) → IsMet (s ∷ []) x → x.stop ≡ stop → PreservesShare stop s q → board_of y ≡ board_of x → MayBeGiven x s y q
 stayed_given x y stop s q met same kept as_before =
     let at = here x s met in
-    let m = simulation s.shard.case in
-    let may = may_stay m (lawful s.shard.case at.is_case) (who x) (board_of x) (place_of s) (place_of q) at.board at.stands (keeps_here x stop s q same kept) in
-    own_part x y s q kept.case (subst (λ b. MayGive m (who x) (board_of x) (place_of s) b (place_of q)) (sym as_before) may)
+    let m = simulation s.shard.terms.case in
+    let may = may_stay m (lawful s.shard.terms.case at.is_case) (who x) (board_of x) (place_of s) (place_of q) at.board at.stands (keeps_here x stop s q same kept) in
+    own_part x y s q (ap (λ x. x.case) kept.shard.terms) (subst (λ b. MayGive m (who x) (board_of x) (place_of s) b (place_of q)) (sym as_before) may)
 
 -- ---- with a visit
 
@@ -107,14 +107,14 @@ told_is case q none =
 told_late : (x : Board) (stop : ℕ) (s q : Share) → IsMet (s ∷ []) x → x.stop ≡ stop → PreservesShare stop s q → q.mail ≡ [] → IfSome (told_of q) (λ time. x.bound ≤ time)
 told_late x stop s q met same kept none =
     let at = here x s met in
-    subst (λ o. IfSome o (λ time. x.bound ≤ time)) (told_is s.shard.case q none)
-    (report_late (simulation s.shard.case) (lawful s.shard.case at.is_case) (who x) (board_of x) (place_of s) (place_of q) at.board at.stands (keeps_here x stop s q same kept))
+    subst (λ o. IfSome o (λ time. x.bound ≤ time)) (told_is s.shard.terms.case q none)
+    (report_late (simulation s.shard.terms.case) (lawful s.shard.terms.case at.is_case) (who x) (board_of x) (place_of s) (place_of q) at.board at.stands (keeps_here x stop s q same kept))
 
 pub not_early : (x : Board) (stop : ℕ) (s q : Share) → IsMet (s ∷ []) x → x.stop ≡ stop → PreservesShare stop s q → q.mail ≡ [] → is_early q.unsent (told_of q) x ≡ false
 not_early x stop s q met same kept none =
     let at = here x s met in
-    let m = simulation s.shard.case in
-    let law = lawful s.shard.case at.is_case in
+    let m = simulation s.shard.terms.case in
+    let law = lawful s.shard.terms.case at.is_case in
     or_from (option_map_or (λ time. nat_lt time x.bound) (told_of q) false) (list_any (λ y. nat_lt y.event.time x.bound) q.unsent)
     (report_not_early x.bound (told_of q) (told_late x stop s q met same kept none))
     (none_early m law x.bound q.unsent
@@ -124,7 +124,7 @@ not_early x stop s q met same kept none =
 pub not_homeless : (x : Board) (stop : ℕ) (s q : Share) → IsMet (s ∷ []) x → x.stop ≡ stop → PreservesShare stop s q → is_homeless q.unsent x ≡ false
 not_homeless x stop s q met same kept =
     let at = here x s met in
-    let case = s.shard.case in
+    let case = s.shard.terms.case in
     let m = simulation case in
     let law = lawful case at.is_case in
     none_homeless m law x.owners (workers x) q.unsent
@@ -132,25 +132,25 @@ not_homeless x stop s q met same kept =
 
 -- what was asked of a visit, and what it left
 pub record IsVisited (x y : Board) (s q t : Share) : Type 0 where
-  pub board : y ≡ visited s.shard.worker q.unsent (told_of q) x
+  pub board : y ≡ visited s.shard.terms.worker q.unsent (told_of q) x
   pub shard : t.shard ≡ record q.shard { bound = max q.shard.bound y.bound }
-  pub mail : t.mail ≡ handed s.shard.worker q.unsent x
+  pub mail : t.mail ≡ handed s.shard.terms.worker q.unsent x
   pub unsent : t.unsent ≡ []
 
 -- its report is the least time of what then waits for its routers, is held, or is in its hand
-pub report_left : (x y : Board) (s q t : Share) → IsMet (s ∷ []) x → IsVisited x y s q t → report_of s.shard.worker y ≡ report_time (simulation t.shard.case) (place_of t)
+pub report_left : (x y : Board) (s q t : Share) → IsMet (s ∷ []) x → IsVisited x y s q t → report_of s.shard.terms.worker y ≡ report_time (simulation t.shard.terms.case) (place_of t)
 report_left x y s q t met is =
     let at = here x s met in
-    let w = s.shard.worker in
+    let w = s.shard.terms.worker in
     let told = least_time_of (told_of q) (handed w q.unsent x) in
     ap (λ b. report_of w b) is.board
     ∙ (get_or-set_same x.reports w told None at.stands.worker
     ∙ (λ i. least_time_of (ap (λ (s : Shard). reduce min (map (λ e. e.time) (s.pending ++ s.kept ++ s.held))) (sym is.shard) i) (sym is.mail i)))
 
 place_told : (x y : Board) (s q t : Share) → IsVisited x y s q t → q.mail ≡ []
-    → after_visit (handed s.shard.worker q.unsent x) (max q.shard.bound y.bound) (place_of q) ≡ place_of t
+    → after_visit (handed s.shard.terms.worker q.unsent x) (max q.shard.bound y.bound) (place_of q) ≡ place_of t
 place_told x y s q t is none =
-    let mail = handed s.shard.worker q.unsent x in
+    let mail = handed s.shard.terms.worker q.unsent x in
     let left : Share = record { shard = record q.shard { bound = max q.shard.bound y.bound }; mail = mail; unsent = [] } in
     let same : left ≡ t = λ i. record { shard = sym is.shard i; mail = sym is.mail i; unsent = sym is.unsent i } in
     ap (λ l. record (place_of left) { mail = l ++ mail }) none ∙ ap place_of same
@@ -159,23 +159,23 @@ pub visited_whole : (x y : Board) (stop : ℕ) (s q t : Share) → IsMet (s ∷ 
     → IsVisited x y s q t → IsGiven x s y t
 visited_whole x y stop s q t met board same kept none sorted rises is =
     let at = here x s met in
-    let m = simulation s.shard.case in
-    let law = lawful s.shard.case at.is_case in
-    let w = s.shard.worker in
+    let m = simulation s.shard.terms.case in
+    let law = lawful s.shard.terms.case at.is_case in
+    let w = s.shard.terms.worker in
     let keeps = keeps_here x stop s q same kept in
     let mail = handed w q.unsent x in
     let b = max q.shard.bound y.bound in
     let z = visited w q.unsent (told_of q) x in
     let visit : IsVisit m (who x) w q.unsent (told_of q) mail (board_of x) (board_of y)
     = subst (λ (v : Board). IsVisit m (who x) w q.unsent (told_of q) mail (board_of x) (board_of v)) (sym is.board)
-    (is_visit s.shard.case x w q.unsent (told_of q) at.is_case board at.stands.worker (not_early x stop s q met same kept none) (not_homeless x stop s q met same kept)) in
-    let tells : Tells m (told_of q) (place_of q) = subst (λ o. Tells m o (place_of q)) (told_is s.shard.case q none) (tells_all m law (place_of q)) in
+    (is_visit s.shard.terms.case x w q.unsent (told_of q) at.is_case board at.stands.worker (not_early x stop s q met same kept none) (not_homeless x stop s q met same kept)) in
+    let tells : Tells m (told_of q) (place_of q) = subst (λ o. Tells m o (place_of q)) (told_is s.shard.terms.case q none) (tells_all m law (place_of q)) in
     let known : q.shard.bound ≤ y.bound = (let k = keeps.bound in let l = at.stands.bound in omega arith) in
     let least : q.shard.bound ≤ b = omega arith in
     let most : b ≤ y.bound = omega arith in
     let may = may_visit m law (who x) (board_of x) (board_of y) (place_of s) (place_of q) (told_of q) mail at.board at.stands keeps visit sorted tells b least most in
     record {
-      case = ap (λ c. c.case) is.shard ∙ kept.case;
+      case = ap (λ (s : Shard). s.terms.case) is.shard ∙ ap (λ x. x.case) kept.shard.terms;
       owners = ap (λ (b : Board). b.owners) is.board;
       give = subst (MayGive m (who x) (board_of x) (place_of s) (board_of y)) (place_told x y s q t is none) may;
     }
@@ -190,7 +190,7 @@ visited_given x y stop s q t met board same kept none sorted rises is =
 
 pub at_work : (case : Case) (x : Board) (shares : List Share) (i : ℕ) (s : Share) → IsRuled case x shares → slice_get shares i ≡ Some s → IsAtWork x.stop s
 at_work case x shares i s ruled place =
-    let same = all_at (λ (t : Share). t.shard.case ≡ case) shares i s place ruled.cases in
+    let same = all_at (λ (t : Share). t.shard.terms.case ≡ case) shares i s place ruled.cases in
     let stands = all_at (Stands (simulation case) (who x) (board_of x)) (map place_of shares) i (place_of s) (get_map place_of shares i s place) ruled.rule.each in
     let at = here_at case x s same ruled.is_case ruled.rule.board stands ruled.rule.routers in
     record {

@@ -18,23 +18,16 @@ pub record Worker : Type 0 where
 
 -- what a worker keeps, to this stop
 pub record IsAtWork (stop : ℕ) (s : Share) : Type 0 where
-  pub case : IsCase s.shard.case
-  pub place : IsPlace (simulation s.shard.case) stop (place_of s)
+  pub case : IsCase s.shard.terms.case
+  pub place : IsPlace (simulation s.shard.terms.case) stop (place_of s)
   -- before the bound that it knows, its routers have handled what the one-thread run has
-  pub run : IsRunBefore (simulation s.shard.case) s.shard.bound (place_of s)
+  pub run : IsRunBefore (simulation s.shard.terms.case) s.shard.bound (place_of s)
 
 -- what calls at a worker, to this stop, keep of its share
 pub record PreservesShare (stop : ℕ) (s t : Share) : Type 0 where
-  pub case : t.shard.case ≡ s.shard.case
-  -- there are as many workers
-  pub workers : t.shard.workers ≡ s.shard.workers
-  -- it has the same routers, in the same order
-  pub routers : t.shard.routers ≡ s.shard.routers
-  -- its routers retain their committed events, or let them go, as before
-  pub retaining : t.shard.retains ≡ s.shard.retains
-  -- and it takes back what undone events have sent as before
-  pub cancel : t.shard.cancel ≡ s.shard.cancel
-  pub place : PreservesPlace (simulation s.shard.case) stop (place_of s) (place_of t)
+  -- it has the same routers, in the same order, on the same terms
+  pub shard : IsSameShare s.shard t.shard
+  pub place : PreservesPlace (simulation s.shard.terms.case) stop (place_of s) (place_of t)
 
 -- a worker with this share has no router, and no message to deliver or to send
 pub record IsIdle (s : Share) : Type 0 where
@@ -54,24 +47,24 @@ HasCommitted w = (r : ℕ) → owns w.share.shard r ≡ true → (shard_core 0 w
 -- a held message may be sent again: its sender has an event pending that is before it, and before the stop
 pub record IsAwaited (stop : ℕ) (s : Shard) (e : Event) : Type 0 where
   pub cause : Event
-  pub pending : 0 < times (simulation s.case) cause s.pending
+  pub pending : 0 < times (simulation s.terms.case) cause s.pending
   pub sender : cause.dst ≡ e.src
   pub sooner : cause.time < e.time
   pub until : cause.time < stop
 
 -- all that is held for router r may be sent again
 abbrev pub AreAwaitedFrom : ℕ → ℕ → Shard → Type 0
-AreAwaitedFrom r stop s = (e : Event) → 0 < times (simulation s.case) e s.held → e.src ≡ r → IsAwaited stop s e
+AreAwaitedFrom r stop s = (e : Event) → 0 < times (simulation s.terms.case) e s.held → e.src ≡ r → IsAwaited stop s e
 
 -- and all that is held for any of its routers
 abbrev pub AreAwaited : ℕ → Shard → Type 0
-AreAwaited stop s = (e : Event) → 0 < times (simulation s.case) e s.held → IsAwaited stop s e
+AreAwaited stop s = (e : Event) → 0 < times (simulation s.terms.case) e s.held → IsAwaited stop s e
 
 -- what a worker has kept since any share, it still has later
 abbrev pub StillPreserves : Worker → Worker → Type 0
 StillPreserves v w = (s : Share) → PreservesShare v.stop s v.share → PreservesShare w.stop s w.share
 
--- the same worker later: for the same case, with the same routers among as many workers, which retain as much, and with the same stop
+-- the same worker later: with the same routers, on the same terms, and with the same stop
 pub record IsSameWorker (v w : Worker) : Type 0 where
   pub shard : IsSameShare v.share.shard w.share.shard
   pub stop : w.stop ≡ v.stop

@@ -36,8 +36,8 @@ impl<'a> Worker<'a> {
 /// One of a shard's routers commits its events before the bound, which are the one-thread run.
 pub(crate) fn commit_at(shard: &mut Shard<'_>, router: u32) -> Result<(), AllocError>
     requires own { owns shard.old router ≡ true }
-    requires run { router < shard.old.case.net.nodes → FollowsRun shard.old router }
-    ensures ok { (stop : ℕ) → OnOk result (shard_core stop shard.new ≡ with_commit (simulation shard.old.case) (shard_core stop shard.old) router) }
+    requires run { router < shard.old.terms.case.net.nodes → FollowsRun shard.old router }
+    ensures ok { (stop : ℕ) → OnOk result (shard_core stop shard.new ≡ with_commit (simulation shard.old.terms.case) (shard_core stop shard.old) router) }
     ensures err { OnErr result (shard.new ≡ shard.old) }
     ensures same { IsSameShare shard.old shard.new }
 {

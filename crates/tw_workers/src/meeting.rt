@@ -41,7 +41,7 @@ impl<'a> Worker<'a> {
         ensures told { (result.1 ≡ Some leaving.Memory → ⊥) → self.new.share.shard.bound ≡ bound_at result.0 }
         ensures sent { (result.1 ≡ Some leaving.Memory → ⊥) → self.new.share.unsent ≡ [] }
         // It has reported the least time of all that waits for its routers, is held for them, or is in its hand.
-        ensures report { (result.1 ≡ Some leaving.Memory → ⊥) → report_at result.0 ≡ report_time (simulation self.new.share.shard.case) (place_of self.new.share) }
+        ensures report { (result.1 ≡ Some leaving.Memory → ⊥) → report_at result.0 ≡ report_time (simulation self.new.share.shard.terms.case) (place_of self.new.share) }
         ensures was_halted { was_halted_at result.0 ≡ halted_at seat }
         ensures open { result.1 ≡ None → bound_at result.0 < self.new.stop }
         ensures settled { result.1 ≡ Some leaving.Settled → bound_at result.0 ≡ self.new.stop }
@@ -114,8 +114,8 @@ fn visit(
     ensures rises { (taken_by held.old).bound ≤ (exchange_of held.new).bound }
     ensures told { (result ≡ Some leaving.Memory → ⊥) → shard.new.bound ≡ (exchange_of held.new).bound }
     ensures sent { (result ≡ Some leaving.Memory → ⊥) → hand.new.out.items ≡ [] }
-    ensures report { (result ≡ Some leaving.Memory → ⊥) → report_of (share_of held.old).shard.worker (exchange_of held.new)
-        ≡ report_time (simulation shard.new.case) (place_of (share shard.new hand.new)) }
+    ensures report { (result ≡ Some leaving.Memory → ⊥) → report_of (share_of held.old).shard.terms.worker (exchange_of held.new)
+        ≡ report_time (simulation shard.new.terms.case) (place_of (share shard.new hand.new)) }
     ensures open { result ≡ None → (exchange_of held.new).bound < stop }
     ensures settled { result ≡ Some leaving.Settled → (exchange_of held.new).bound ≡ stop }
     ensures full { result ≡ Some leaving.CounterFull → ⊥ }

@@ -19,7 +19,7 @@ give-requires-clause-fair g c =
     let told = c.in_ok-visit.ensures in
     let left = c.take_out-out.ensures.rest in
     let out = c.take_out-out.ensures.value in
-    let own = (share_of h).shard.worker in
+    let own = (share_of h).shard.terms.worker in
     let report = c.report_time.ensures ∙ (λ i. reduce min (map (λ e. e.time) ((left i).pending ++ (left i).kept ++ (left i).held))) in
     may_give c.args.table.now c.args.seat h k (share c.args.shard.now old) (share c.raise_bound.new.self (record old { mail = c.in_ok-visit.visit.mail; next = 0 }))
     c.requires taken.share taken.exchange taken.met taken.board taken.stop told.same told.rising

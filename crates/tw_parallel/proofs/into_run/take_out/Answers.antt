@@ -122,13 +122,13 @@ module _ (c : goal.After-add) where
   there = c.take_router-router.ensures.whole.routers q own_then
 
   net : line.net ≡ case.net
-  net = there.net ∙ (ap (λ (s : Shard). s.case.net) shard_then ∙ ap (λ (k : Case). k.net) may_then.case_is)
+  net = there.net ∙ (ap (λ (s : Shard). s.terms.case.net) shard_then ∙ ap (λ (k : Case). k.net) may_then.case_is)
 
   run : history line ≡ own_run case q time
   run = ap (λ (s : Shard). history (timeline s q)) shard_then ∙ may_then.run
 
   keeps_then : retains ≡ true → line.retains ≡ true
-  keeps_then kept = there.retains ∙ (ap (λ (s : Shard). s.retains) shard_then ∙ may_then.retains_are kept)
+  keeps_then kept = there.retains ∙ (ap (λ (s : Shard). s.terms.retains) shard_then ∙ may_then.retains_are kept)
 
 pub loop-number-preserved : goal.loop-number-preserved
 loop-number-preserved c =

@@ -54,9 +54,9 @@ module _ (c : goal.After-index_mut) where
 
 pub pass-handed-requires-clause-like : goal.pass-handed-requires-clause-like
 pass-handed-requires-clause-like c = record {
-  case = ap (λ (s : Shard). s.case) (other_is c) ∙ (c.requires.fit.like.case ∙ ap (λ (s : Shard). s.case) (sym (source_is c)));
-  retains = ap (λ (s : Shard). s.retains) (other_is c) ∙ (c.requires.fit.like.retains ∙ ap (λ (s : Shard). s.retains) (sym (source_is c)));
-  cancel = ap (λ (s : Shard). s.cancel) (other_is c) ∙ (c.requires.fit.like.cancel ∙ ap (λ (s : Shard). s.cancel) (sym (source_is c)));
+  case = ap (λ (s : Shard). s.terms.case) (other_is c) ∙ (c.requires.fit.like.case ∙ ap (λ (s : Shard). s.terms.case) (sym (source_is c)));
+  retains = ap (λ (s : Shard). s.terms.retains) (other_is c) ∙ (c.requires.fit.like.retains ∙ ap (λ (s : Shard). s.terms.retains) (sym (source_is c)));
+  cancel = ap (λ (s : Shard). s.terms.cancel) (other_is c) ∙ (c.requires.fit.like.cancel ∙ ap (λ (s : Shard). s.terms.cancel) (sym (source_is c)));
 }
 
 module _ (c : goal.After-swap) where

@@ -44,7 +44,7 @@ pub returns-in-Handle-clause-free : goal.returns-in-Handle-clause-free
 returns-in-Handle-clause-free c = λ free told.
     let s = c.args.shard.now in
     let r = c.args.router in
-    let m = simulation s.case in
+    let m = simulation s.terms.case in
     let C = shard_core c.args.stop s in
     let at : FreeAt c.args.call s r → FreeAt Handle s r = λ h. subst (λ call. FreeAt call s r) c.in-Handle.is h in
     not_memory s r (handle m C r (first_pending m C r)) c.handle_next.result (λ own. absurd (at (free own))) (c.handle_next.ensures.refused NotMine) told
@@ -53,7 +53,7 @@ pub returns-in-Undo-clause-free : goal.returns-in-Undo-clause-free
 returns-in-Undo-clause-free c = λ free told.
     let s = c.args.shard.now in
     let r = c.args.router in
-    let m = simulation s.case in
+    let m = simulation s.terms.case in
     let C = shard_core c.args.stop s in
     let at : FreeAt c.args.call s r → FreeAt Undo s r = λ h. subst (λ call. FreeAt call s r) c.in-Undo.is h in
     not_memory s r (undo m C r (C.history r)) c.undo_last.result (λ own. absurd (at (free own))) (c.undo_last.ensures.refused c.args.stop NotMine) told
@@ -62,7 +62,7 @@ pub returns-in-Commit-clause-free : goal.returns-in-Commit-clause-free
 returns-in-Commit-clause-free c = λ free told.
     let s = c.args.shard.now in
     let r = c.args.router in
-    let m = simulation s.case in
+    let m = simulation s.terms.case in
     let C = shard_core c.args.stop s in
     let at : FreeAt c.args.call s r → FreeAt Commit s r = λ h. subst (λ call. FreeAt call s r) c.in-Commit.is h in
     not_memory s r (Ok (with_commit m C r)) c.commit.result (λ own. c.commit.ensures.free own (at (free own))) (c.commit.ensures.refused c.args.stop NotMine) told
@@ -71,7 +71,7 @@ pub returns-in-Release-clause-free : goal.returns-in-Release-clause-free
 returns-in-Release-clause-free c = λ free told.
     let s = c.args.shard.now in
     let r = c.args.router in
-    let m = simulation s.case in
+    let m = simulation s.terms.case in
     let C = shard_core c.args.stop s in
     let at : FreeAt c.args.call s r → FreeAt Release s r = λ h. subst (λ call. FreeAt call s r) c.in-Release.is h in
     not_memory s r (Ok (with_release m C r)) c.release.result (λ own. c.release.ensures.free own (at (free own))) (c.release.ensures.refused c.args.stop NotMine) told
@@ -80,7 +80,7 @@ pub returns-in-Widen-clause-free : goal.returns-in-Widen-clause-free
 returns-in-Widen-clause-free c = λ free told.
     let s = c.args.shard.now in
     let r = c.args.router in
-    let m = simulation s.case in
+    let m = simulation s.terms.case in
     let C = shard_core c.args.stop s in
     let at : FreeAt c.args.call s r → FreeAt Widen s r = λ h. subst (λ call. FreeAt call s r) c.in-Widen.is h in
     not_memory s r (Ok (with_room m C r)) c.widen.result (λ own. c.widen.ensures.free own (at (free own))) (c.widen.ensures.refused c.args.stop NotMine) told

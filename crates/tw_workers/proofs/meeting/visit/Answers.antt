@@ -17,7 +17,7 @@ is_visited : (c : After-told) → IsVisited (taken_by c.args.held.now) (exchange
 is_visited c =
     let q = share c.args.shard.now c.args.hand.now in
     let z = exchange_of c.args.held.now in
-    let w = (share_of c.args.held.now).shard.worker in
+    let w = (share_of c.args.held.now).shard.terms.worker in
     let out = c.args.hand.now.out.items in
     let told = c.in-Ok.ensures in
     let report = c.report_time.ensures in

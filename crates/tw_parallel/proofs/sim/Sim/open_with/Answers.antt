@@ -33,11 +33,11 @@ returns-clause-opens c =
 pub returns-clause-retains : goal.returns-clause-retains
 returns-clause-retains c = λ is.
     let shards = c.in_ok-shards.shards.items in
-    all_retain shards c.in_ok-hands.hands.items (λ k h. (c.in_ok-shards.ensures.each k (let many = c.in_ok-shards.ensures.count in omega arith)).retains_are ∙ is)
+    all_retain shards c.in_ok-hands.hands.items (λ k h. ap (λ x. x.retains) (c.in_ok-shards.ensures.each k (let many = c.in_ok-shards.ensures.count in omega arith)).terms ∙ is)
 
 pub returns-clause-cancels : goal.returns-clause-cancels
 returns-clause-cancels c =
     let shards = c.in_ok-shards.shards.items in
     all_take c.args.cancel shards c.in_ok-hands.hands.items (same c) (λ k h.
-    ap (λ (C : Core Event). C.cancel) ((c.in_ok-shards.ensures.each k (let many = c.in_ok-shards.ensures.count in omega arith)).core_is 0))
+    ap (λ x. x.cancel) (c.in_ok-shards.ensures.each k (let many = c.in_ok-shards.ensures.count in omega arith)).terms)
     ∙ ap (λ n. replicate n c.args.cancel) c.in_ok-shards.ensures.count

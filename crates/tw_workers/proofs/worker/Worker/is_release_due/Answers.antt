@@ -10,14 +10,14 @@ use Rattle.tw_workers.proofs.worker.Worker.is_release_due.Goals as goal
 pub returns-in-None : goal.returns-in-None
 returns-in-None c = λ _.
     let inside = c.self.inside in
-    let law = lawful inside.shard.case c.self.invariant.work.case in
+    let law = lawful inside.shard.terms.case c.self.invariant.work.case in
     subst (λ (w : Worker). AreAwaitedFrom c.args.router w.stop w.share.shard) c.self.view_is
     (none_awaited c.args.router inside.stop inside.shard law (sym c.held_time.ensures ∙ c.in-None.is))
 
 pub returns-in-Some : goal.returns-in-Some
 returns-in-Some c = λ kept.
     let inside = c.self.inside in
-    let law = lawful inside.shard.case c.self.invariant.work.case in
+    let law = lawful inside.shard.terms.case c.self.invariant.work.case in
     let found = ap (list_any (is_before c.args.router c.min.result)) (sym c.pending.ensures) ∙ (sym c.has_before.ensures ∙ not-false c.has_before.result kept) in
     let least = c.min.ensures in
     subst (λ (w : Worker). AreAwaitedFrom c.args.router w.stop w.share.shard) c.self.view_is

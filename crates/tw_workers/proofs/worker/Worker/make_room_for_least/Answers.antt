@@ -13,9 +13,9 @@ use Rattle.tw_workers.proofs.worker.Worker.make_room_for_least.Goals as goal
 pub make_room-requires : goal.make_room-requires
 make_room-requires c =
     let s = c.self.inside.shard in
-    let law = lawful s.case c.self.invariant.work.case in
+    let law = lawful s.terms.case c.self.invariant.work.case in
     let full = subst (λ (w : Worker). handling_least c.requires.0 w.share.shard ≡ Err AheadFull) (sym c.self.view_is) c.requires.1 in
     let first : least event_before s.pending ≡ Some c.in-Some.event =
     ap (least event_before) (sym c.pending.ensures)
-    ∙ (least_first (simulation s.case) law c.pending.result.now.events c.least.ensures.queue.rising ∙ (sym c.least.ensures.first ∙ c.in-Some.is)) in
+    ∙ (least_first (simulation s.terms.case) law c.pending.result.now.events c.least.ensures.queue.rising ∙ (sym c.least.ensures.first ∙ c.in-Some.is)) in
     record { own = subst (λ (w : Worker). owns w.share.shard c.in-Some.event.dst ≡ true) c.self.view_is (own_least c.requires.0 s c.in-Some.event first full) }

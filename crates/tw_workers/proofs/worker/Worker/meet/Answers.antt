@@ -31,4 +31,4 @@ visit-leaving-requires-clause-no_router g c = λ why.
 pub returns-clause-report : goal.returns-clause-report
 returns-clause-report g c = λ taken.
     let y = exchange_of c.visit-leaving.new.held in
-    c.give-seat.ensures.report ∙ (ap (λ (s : Share). report_of s.shard.worker y) c.visit-leaving.ensures.seat.share ∙ c.visit-leaving.ensures.report taken)
+    c.give-seat.ensures.report ∙ (ap (λ (s : Share). report_of s.shard.terms.worker y) c.visit-leaving.ensures.seat.share ∙ c.visit-leaving.ensures.report taken)
