@@ -23,7 +23,7 @@ kept_committed stop r s t work same own =
     let m = simulation s.shard.case in
     let made : with_core (with_commit m (shard_core stop s.shard) r) (place_of s) ≡ place_of (record s { shard = t })
     = (λ i. with_core (sym own i) (place_of s)) ∙ sym (place_after stop s (record s { shard = t }) same refl refl) in
-    record { case = same.case; workers = same.workers; routers = same.routers; retaining = same.retains; cancel = same.cancel; place = subst (PreservesPlace m stop (place_of s)) made (keeps_commit m (lawful s.shard.case work.case) stop r (place_of s) work.place) }
+    record { shard = same; place = subst (PreservesPlace m stop (place_of s)) made (keeps_commit m (lawful s.shard.case work.case) stop r (place_of s) work.place) }
 
 -- what one of its routers has handled before the bound is the run
 pub has_run : (stop : ℕ) (s : Share) → IsAtWork stop s → (r : ℕ) → owns s.shard r ≡ true → r < s.shard.case.net.nodes → FollowsRun s.shard r

@@ -131,11 +131,7 @@ kept_sorted stop s work =
     let own = filter (is_own s.shard) s.shard.outgoing in
     let rest = filter (λ x. not (is_own s.shard x)) s.shard.outgoing in
     record {
-      case = refl;
-      workers = refl;
-      routers = refl;
-      retaining = refl;
-      cancel = refl;
+      shard = record { case = refl; worker = refl; workers = refl; routers = refl; retains = refl; cancel = refl };
       place = keeps_moved m law stop (place_of s) (s.mail ++ own) (s.unsent ++ rest) [] work.place
           (λ e. (
           let a = messages-append m e s.mail own in
@@ -163,11 +159,7 @@ kept_taken stop s work none own =
     let m = simulation s.shard.case in
     let law = lawful s.shard.case work.case in
     record {
-      case = refl;
-      workers = refl;
-      routers = refl;
-      retaining = refl;
-      cancel = refl;
+      shard = record { case = refl; worker = refl; workers = refl; routers = refl; retains = refl; cancel = refl };
       place = keeps_moved m law stop (place_of s) s.shard.outgoing s.unsent [] work.place
           (λ e. (let a = ap (messages m e) none in omega arith))
           (λ e. (let a = ap (antimessages m e) none in omega arith))
@@ -179,11 +171,7 @@ pub kept_sent : (stop : ℕ) (s : Share) → IsAtWork stop s → PreservesShare 
 kept_sent stop s work =
     let m = simulation s.shard.case in
     record {
-      case = refl;
-      workers = refl;
-      routers = refl;
-      retaining = refl;
-      cancel = refl;
+      shard = record { case = refl; worker = refl; workers = refl; routers = refl; retains = refl; cancel = refl };
       place = keeps_moved m (lawful s.shard.case work.case) stop (place_of s) s.mail (s.unsent ++ s.shard.outgoing) [] work.place
           (λ e. (let b = messages-append m e s.unsent s.shard.outgoing in omega arith))
           (λ e. (let b = antimessages-append m e s.unsent s.shard.outgoing in omega arith))

@@ -26,6 +26,17 @@ use Rattle.tw_sim.specs.Ordered.{least}
 use Rattle.tw_table.specs.Shares.{Share, place_of}
 use Rattle.tw_workers.specs.Work.{IsAtWork, PreservesShare}
 
+-- a shard that is the same worker's still is so after one more call
+pub same_again : (a b c : Shard) → IsSameShare a b → IsSameShare b c → IsSameShare a c
+same_again a b c first last = record {
+  case = last.case ∙ first.case;
+  worker = last.worker ∙ first.worker;
+  workers = last.workers ∙ first.workers;
+  routers = last.routers ∙ first.routers;
+  retains = last.retains ∙ first.retains;
+  cancel = last.cancel ∙ first.cancel;
+}
+
 -- ---- the share after a call
 
 -- it is the place whose routers have become another machine
@@ -60,19 +71,15 @@ keeps_same stop s work = record {
 }
 
 pub kept_same : (stop : ℕ) (s : Share) → IsAtWork stop s → PreservesShare stop s s
-kept_same stop s work = record { case = refl; workers = refl; routers = refl; retaining = refl; cancel = refl; place = keeps_same stop s work }
+kept_same stop s work = record { shard = record { case = refl; worker = refl; workers = refl; routers = refl; retains = refl; cancel = refl }; place = keeps_same stop s work }
 
 pub kept_both : (stop : ℕ) (s t u : Share) → PreservesShare stop s t → PreservesShare stop t u → PreservesShare stop s u
 kept_both stop s t u one two =
     let m = simulation s.shard.case in
     let first = one.place in
-    let second : PreservesPlace m stop (place_of t) (place_of u) = subst (λ (c : Case). PreservesPlace (simulation c) stop (place_of t) (place_of u)) one.case two.place in
+    let second : PreservesPlace m stop (place_of t) (place_of u) = subst (λ (c : Case). PreservesPlace (simulation c) stop (place_of t) (place_of u)) one.shard.case two.place in
     record {
-      case = two.case ∙ one.case;
-      workers = two.workers ∙ one.workers;
-      routers = two.routers ∙ one.routers;
-      retaining = two.retaining ∙ one.retaining;
-      cancel = two.cancel ∙ one.cancel;
+      shard = same_again s.shard t.shard u.shard one.shard two.shard;
       place = record {
         worker = second.worker ∙ first.worker;
         owns = second.owns ∙ first.owns;
@@ -97,9 +104,9 @@ run_kept stop s t work kept =
 pub work_kept : (stop : ℕ) (s t : Share) → IsAtWork stop s → PreservesShare stop s t → IsAtWork stop t
 work_kept stop s t work kept =
     record {
-      case = subst IsCase (sym kept.case) work.case;
-      place = subst (λ (c : Case). IsPlace (simulation c) stop (place_of t)) (sym kept.case) kept.place.place;
-      run = subst (λ (c : Case). IsRunBefore (simulation c) t.shard.bound (place_of t)) (sym kept.case) (run_kept stop s t work kept);
+      case = subst IsCase (sym kept.shard.case) work.case;
+      place = subst (λ (c : Case). IsPlace (simulation c) stop (place_of t)) (sym kept.shard.case) kept.place.place;
+      run = subst (λ (c : Case). IsRunBefore (simulation c) t.shard.bound (place_of t)) (sym kept.shard.case) (run_kept stop s t work kept);
     }
 
 -- ---- messages of the hand
@@ -159,7 +166,7 @@ kept_received stop s t x rest work first same came mail unsent =
     let arrived : with_core (after_arrival m (shard_core stop s.shard) x) (record (place_of s) { mail = remove s.mail 0 }) ≡ with_core (shard_core stop t.shard) (place_of mid)
     = λ i. with_core (came i) (record (place_of s) { mail = left i }) in
     let made = arrived ∙ sym (place_after stop mid t same mail unsent) in
-    record { case = same.case; workers = same.workers; routers = same.routers; retaining = same.retains; cancel = same.cancel; place = subst (PreservesPlace m stop (place_of s)) made keeps }
+    record { shard = same; place = subst (PreservesPlace m stop (place_of s)) made keeps }
 
 -- some of what it undoes is undone, and it is in the hand still
 pub kept_rolled_back : (stop : ℕ) (s t : Share) (x : Signed Event) (rest : List (Signed Event)) → IsAtWork stop s → s.mail ≡ x ∷ rest → IsSameShare s.shard t.shard
@@ -168,7 +175,7 @@ kept_rolled_back stop s t x rest work first same back mail unsent =
     let m = simulation s.shard.case in
     let there : slice_get s.mail 0 ≡ Some x = ap (λ l. slice_get l 0) first in
     let keeps = keeps_roll_back m (lawful s.shard.case work.case) stop 0 (place_of s) x (shard_core stop t.shard) work.place there back in
-    record { case = same.case; workers = same.workers; routers = same.routers; retaining = same.retains; cancel = same.cancel; place = subst (PreservesPlace m stop (place_of s)) (sym (place_after stop s t same mail unsent)) keeps }
+    record { shard = same; place = subst (PreservesPlace m stop (place_of s)) (sym (place_after stop s t same mail unsent)) keeps }
 
 -- ---- a router handles
 
@@ -191,7 +198,7 @@ kept_handled stop r s t work same done mail unsent =
     let own = own_of stop r s.shard t.shard done in
     let at_own : next ≡ Ok (shard_core stop t.shard) = sym (ap (λ b. if b then next else Err NotMine) own) ∙ done in
     let keeps = keeps_handle m (lawful s.shard.case work.case) stop r (place_of s) (shard_core stop t.shard) work.place at_own in
-    record { case = same.case; workers = same.workers; routers = same.routers; retaining = same.retains; cancel = same.cancel; place = subst (PreservesPlace m stop (place_of s)) (sym (place_after stop s t same mail unsent)) keeps }
+    record { shard = same; place = subst (PreservesPlace m stop (place_of s)) (sym (place_after stop s t same mail unsent)) keeps }
 
 -- and where the least of all pending events is handled
 pub kept_least : (stop : ℕ) (s t : Share) → IsAtWork stop s → IsSameShare s.shard t.shard → handling_least stop s.shard ≡ Ok (shard_core stop t.shard) → t.mail ≡ s.mail → t.unsent ≡ s.unsent
@@ -231,11 +238,7 @@ kept_widened stop r s t work same own done =
     let made : with_core (with_room m (shard_core stop s.shard) r) (place_of s) ≡ place_of (record s { shard = t })
     = (λ i. with_core (reached i) (place_of s)) ∙ sym (place_after stop s (record s { shard = t }) same refl refl) in
     record {
-      case = same.case;
-      workers = same.workers;
-      routers = same.routers;
-      retaining = same.retains;
-      cancel = same.cancel;
+      shard = same;
       place = subst (PreservesPlace m stop (place_of s)) made (keeps_widen m (lawful s.shard.case work.case) stop r (place_of s) work.place);
     }
 
@@ -250,11 +253,7 @@ kept_released stop r s t work same own done =
     let made : with_core (with_release m (shard_core stop s.shard) r) (place_of s) ≡ place_of (record s { shard = t })
     = (λ i. with_core (reached i) (place_of s)) ∙ sym (place_after stop s (record s { shard = t }) same refl refl) in
     record {
-      case = same.case;
-      workers = same.workers;
-      routers = same.routers;
-      retaining = same.retains;
-      cancel = same.cancel;
+      shard = same;
       place = subst (PreservesPlace m stop (place_of s)) made (keeps_release m (lawful s.shard.case work.case) stop r (place_of s) work.place);
     }
 

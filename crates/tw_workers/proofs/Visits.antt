@@ -68,7 +68,7 @@ stayed_given x y stop s q met same kept as_before =
     let at = here x s met in
     let m = simulation s.shard.case in
     let may = may_stay m (lawful s.shard.case at.is_case) (who x) (board_of x) (place_of s) (place_of q) at.board at.stands (keeps_here x stop s q same kept) in
-    own_part x y s q kept.case (subst (λ b. MayGive m (who x) (board_of x) (place_of s) b (place_of q)) (sym as_before) may)
+    own_part x y s q kept.shard.case (subst (λ b. MayGive m (who x) (board_of x) (place_of s) b (place_of q)) (sym as_before) may)
 
 -- ---- with a visit
 
@@ -175,7 +175,7 @@ visited_whole x y stop s q t met board same kept none sorted rises is =
     let most : b ≤ y.bound = omega arith in
     let may = may_visit m law (who x) (board_of x) (board_of y) (place_of s) (place_of q) (told_of q) mail at.board at.stands keeps visit sorted tells b least most in
     record {
-      case = ap (λ c. c.case) is.shard ∙ kept.case;
+      case = ap (λ c. c.case) is.shard ∙ kept.shard.case;
       owners = ap (λ (b : Board). b.owners) is.board;
       give = subst (MayGive m (who x) (board_of x) (place_of s) (board_of y)) (place_told x y s q t is none) may;
     }

@@ -25,15 +25,8 @@ pub record IsAtWork (stop : ℕ) (s : Share) : Type 0 where
 
 -- what calls at a worker, to this stop, keep of its share
 pub record PreservesShare (stop : ℕ) (s t : Share) : Type 0 where
-  pub case : t.shard.case ≡ s.shard.case
-  -- there are as many workers
-  pub workers : t.shard.workers ≡ s.shard.workers
-  -- it has the same routers, in the same order
-  pub routers : t.shard.routers ≡ s.shard.routers
-  -- its routers retain their committed events, or let them go, as before
-  pub retaining : t.shard.retains ≡ s.shard.retains
-  -- and it takes back what undone events have sent as before
-  pub cancel : t.shard.cancel ≡ s.shard.cancel
+  -- its shard is the same worker's, with the same routers, in the same order
+  pub shard : IsSameShare s.shard t.shard
   pub place : PreservesPlace (simulation s.shard.case) stop (place_of s) (place_of t)
 
 -- a worker with this share has no router, and no message to deliver or to send
