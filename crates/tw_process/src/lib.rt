@@ -14,6 +14,7 @@ pub mod laws;
 pub mod limits;
 mod model;
 mod refused;
+mod routing;
 mod timed;
 
 pub use body::Body;
