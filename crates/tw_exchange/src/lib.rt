@@ -16,13 +16,15 @@ pub mod laws;
 mod mail;
 mod owners;
 mod parcels;
+mod routing;
 mod rows;
 mod times;
 mod visit;
 
-pub use exchange::Exchange;
+pub use exchange::AnyExchange;
 pub use owners::Owners;
-pub use parcels::Parcels;
+pub use parcels::AnyParcels;
+pub use routing::{Back, Exchange, Parcels, Visit};
 pub use tw_model::OrMemory;
 pub use tw_sim::Signed;
-pub use visit::{Back, Told, Visit, VisitFault};
+pub use visit::{AnyBack, AnyVisit, Told, VisitFault};
