@@ -52,7 +52,12 @@ impl<E: Timed> Model for AnyExchange<E> {
 impl<E: Timed> AnyExchange<E> {
     /// No mail for any of so many workers, each of which has reported the bound. The bound is not beyond the
     /// stop; both are in ticks. Routers are dealt out to workers in turn: router r is worker r mod `workers`'s.
-    pub fn new(alloc: Global, workers: u32, bound: u64, stop: u64) -> Result<AnyExchange<E>, AllocError>
+    pub fn new(
+        alloc: Global,
+        workers: u32,
+        bound: u64,
+        stop: u64,
+    ) -> Result<AnyExchange<E>, AllocError>
         requires { bound ≤ stop }
         ensures { IfOk result (λ x. x ≡ new_board workers bound stop) }
     {

@@ -65,9 +65,7 @@ impl Owners {
     {
         match self {
             Owners::InTurn => false,
-            Owners::Listed(_) => out
-                .iter()
-                .any(|message| !self.has_worker(message, workers)),
+            Owners::Listed(_) => out.iter().any(|message| !self.has_worker(message, workers)),
         }
     }
 
