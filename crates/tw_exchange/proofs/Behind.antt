@@ -5,12 +5,12 @@ use Rattle.std.proofs.lemmas.List.{get_or-map, get_or-set_other, get_or-set_same
 use Rattle.std.proofs.lemmas.List.Sums.{fold-append}
 use Rattle.std.specs.List.{fold}
 use Rattle.std.specs.declared.vec.Vec.{Vec}
-use Rattle.tw_event.specs.declared.event.Event.{Event}
-use Rattle.tw_exchange.specs.Board.{NoneDealt, message_times}
+use Rattle.tw_exchange.specs.AnyBoard.{NoneDealt, message_times}
 use Rattle.tw_exchange.specs.Rows.{HasRoomBehind, behind, items, soonest_of}
 use Rattle.tw_exchange.specs.declared.mail.TheConstants.{NEVER}
 use Rattle.tw_exchange.proofs.Least.{at_most, least_of_two}
 use Rattle.tw_exchange.proofs.Rooms.{items_at, items_set, length_items}
+use Rattle.tw_process.specs.Parts.{Parts}
 use Rattle.tw_sim.specs.declared.machine.Signed.{Signed}
 
 module _ {X : Type 0} where
@@ -46,42 +46,43 @@ module _ {X : Type 0} where
   all_empty [] h = refl
   all_empty (l ∷ ls) h = λ i. h 0 i ∷ all_empty ls (λ w. h (suc w)) i
 
--- the least time of two lists
-soonest_both : (xs ys : List (Signed Event)) → soonest_of (xs ++ ys) ≡ min (soonest_of xs) (soonest_of ys)
-soonest_both xs ys =
-    let s = soonest_of xs in
-    let most : s ≤ NEVER = at_most NEVER (message_times xs) in
-    let cap : s ≡ min NEVER s = omega arith in
-    let swap : min (soonest_of ys) s ≡ min s (soonest_of ys) = omega arith in
-    ap (fold min NEVER) (map-append (λ y. y.event.time) xs ys)
-    ∙ (fold-append min NEVER (message_times xs) (message_times ys) ∙ (ap (λ n. fold min n (message_times ys)) cap ∙ (least_of_two NEVER s (message_times ys) ∙ swap)))
+module _ {E : Type 0} (parts : Parts E) where
+  -- the least time of two lists
+  soonest_both : (xs ys : List (Signed E)) → soonest_of parts (xs ++ ys) ≡ min (soonest_of parts xs) (soonest_of parts ys)
+  soonest_both xs ys =
+      let s = soonest_of parts xs in
+      let most : s ≤ NEVER = at_most NEVER (message_times parts xs) in
+      let cap : s ≡ min NEVER s = omega arith in
+      let swap : min (soonest_of parts ys) s ≡ min s (soonest_of parts ys) = omega arith in
+      ap (fold min NEVER) (map-append (λ y. parts.time y.event) xs ys)
+      ∙ (fold-append min NEVER (message_times parts xs) (message_times parts ys) ∙ (ap (λ n. fold min n (message_times parts ys)) cap ∙ (least_of_two NEVER s (message_times parts ys) ∙ swap)))
 
-module _ {Z : Type 0} where
+module _ {E : Type 0} (parts : Parts E) {Z : Type 0} where
   -- ---- room
 
   -- there is room at the places below this one
-  pub record HasRoomUpTo (end : ℕ) (rows : List (Vec (Signed Event) Z)) (lists : List (List (Signed Event))) : Type 0 where
-    pub room : (w : ℕ) (row : Vec (Signed Event) Z) → w < end → w < length rows → 0 < vec_len (get_or rows w row)
+  pub record HasRoomUpTo (end : ℕ) (rows : List (Vec (Signed E) Z)) (lists : List (List (Signed E))) : Type 0 where
+    pub room : (w : ℕ) (row : Vec (Signed E) Z) → w < end → w < length rows → 0 < vec_len (get_or rows w row)
         → vec_len (get_or rows w row) + length (get_or lists w []) ≤ vec_capacity (get_or rows w row)
 
-  pub room_up_to : (rows : List (Vec (Signed Event) Z)) (lists : List (List (Signed Event))) (i : ℕ) (v : Vec (Signed Event) Z) → HasRoomUpTo i rows lists
+  pub room_up_to : (rows : List (Vec (Signed E) Z)) (lists : List (List (Signed E))) (i : ℕ) (v : Vec (Signed E) Z) → HasRoomUpTo i rows lists
       → (0 < vec_len v → vec_len v + length (get_or lists i []) ≤ vec_capacity v) → HasRoomUpTo (i + 1) (set rows i v) lists
   room_up_to rows lists i v h here = record { room = at } where
-    at : (w : ℕ) (row : Vec (Signed Event) Z) → w < i + 1 → w < length (set rows i v) → 0 < vec_len (get_or (set rows i v) w row)
+    at : (w : ℕ) (row : Vec (Signed E) Z) → w < i + 1 → w < length (set rows i v) → 0 < vec_len (get_or (set rows i v) w row)
         → vec_len (get_or (set rows i v) w row) + length (get_or lists w []) ≤ vec_capacity (get_or (set rows i v) w row)
     at w row end within =
         let long = length-set rows i v in
         elim (cases_eq w i) [
           | inl e ↦ (subst (λ k. 0 < vec_len (get_or (set rows i v) k row) → vec_len (get_or (set rows i v) k row) + length (get_or lists k []) ≤ vec_capacity (get_or (set rows i v) k row)) (sym e)
-              (subst (λ (u : Vec (Signed Event) Z). 0 < vec_len u → vec_len u + length (get_or lists i []) ≤ vec_capacity u) (sym (get_or-set_same rows i v row (omega arith))) here))
-          | inr ne ↦ (subst (λ (u : Vec (Signed Event) Z). 0 < vec_len u → vec_len u + length (get_or lists w []) ≤ vec_capacity u) (sym (get_or-set_other rows i w v row ne))
+              (subst (λ (u : Vec (Signed E) Z). 0 < vec_len u → vec_len u + length (get_or lists i []) ≤ vec_capacity u) (sym (get_or-set_same rows i v row (omega arith))) here))
+          | inr ne ↦ (subst (λ (u : Vec (Signed E) Z). 0 < vec_len u → vec_len u + length (get_or lists w []) ≤ vec_capacity u) (sym (get_or-set_other rows i w v row ne))
               (h.room w row (omega arith) (omega arith)))
         ]
 
   -- past the lists nothing is to come
-  pub room_all : (end : ℕ) (rows : List (Vec (Signed Event) Z)) (lists : List (List (Signed Event))) → HasRoomUpTo end rows lists → min (length rows) (length lists) ≤ end → HasRoomBehind rows lists
+  pub room_all : (end : ℕ) (rows : List (Vec (Signed E) Z)) (lists : List (List (Signed E))) → HasRoomUpTo end rows lists → min (length rows) (length lists) ≤ end → HasRoomBehind rows lists
   room_all end rows lists h past = record { room = at } where
-    at : (w : ℕ) (row : Vec (Signed Event) Z) → w < length rows → 0 < vec_len (get_or rows w row) → vec_len (get_or rows w row) + length (get_or lists w []) ≤ vec_capacity (get_or rows w row)
+    at : (w : ℕ) (row : Vec (Signed E) Z) → w < length rows → 0 < vec_len (get_or rows w row) → vec_len (get_or rows w row) + length (get_or lists w []) ≤ vec_capacity (get_or rows w row)
     at w row within some =
         elim (cases_lt w end) [
           | inl below ↦ h.room w row below within some
@@ -91,10 +92,10 @@ module _ {Z : Type 0} where
               omega arith)
         ]
 
-  room_left : (rows : List (Vec (Signed Event) Z)) (lists : List (List (Signed Event))) (w : ℕ) (v : Vec (Signed Event) Z) → HasRoomBehind rows lists → w < length lists
+  room_left : (rows : List (Vec (Signed E) Z)) (lists : List (List (Signed E))) (w : ℕ) (v : Vec (Signed E) Z) → HasRoomBehind rows lists → w < length lists
       → HasRoomBehind (set rows w v) (set lists w [])
   room_left rows lists w v h within = record { room = at } where
-    at : (k : ℕ) (row : Vec (Signed Event) Z) → k < length (set rows w v) → 0 < vec_len (get_or (set rows w v) k row)
+    at : (k : ℕ) (row : Vec (Signed E) Z) → k < length (set rows w v) → 0 < vec_len (get_or (set rows w v) k row)
         → vec_len (get_or (set rows w v) k row) + length (get_or (set lists w []) k []) ≤ vec_capacity (get_or (set rows w v) k row)
     at k row below =
         let long = length-set rows w v in
@@ -103,23 +104,23 @@ module _ {Z : Type 0} where
               let none : length (get_or (set lists w []) k []) ≡ 0 = ap (λ j. length (get_or (set lists w []) j [])) e ∙ ap length (get_or-set_same lists w [] [] within) in
               let most = (get_or (set rows w v) k row).ok.1 in
               omega arith)
-          | inr ne ↦ (subst (λ (u : Vec (Signed Event) Z). 0 < vec_len u → vec_len u + length (get_or (set lists w []) k []) ≤ vec_capacity u) (sym (get_or-set_other rows w k v row ne))
-              (subst (λ (l : List (Signed Event)). 0 < vec_len (get_or rows k row) → vec_len (get_or rows k row) + length l ≤ vec_capacity (get_or rows k row))
+          | inr ne ↦ (subst (λ (u : Vec (Signed E) Z). 0 < vec_len u → vec_len u + length (get_or (set lists w []) k []) ≤ vec_capacity u) (sym (get_or-set_other rows w k v row ne))
+              (subst (λ (l : List (Signed E)). 0 < vec_len (get_or rows k row) → vec_len (get_or rows k row) + length l ≤ vec_capacity (get_or rows k row))
               (sym (get_or-set_other lists w k [] [] ne)) (h.room k row (omega arith))))
         ]
 
   -- ---- lists put behind, place by place
 
   -- what was dealt at the places below w stands behind the old mail
-  pub record IsJoining (w : ℕ) (mail lists old dealt : List (Vec (Signed Event) Z)) (soonest times : List ℕ) : Type 0 where
+  pub record IsJoining (w : ℕ) (mail lists old dealt : List (Vec (Signed E) Z)) (soonest times : List ℕ) : Type 0 where
     pub all : behind (items mail) (items lists) ≡ behind (items old) (items dealt)
-    pub soonest_is : soonest ≡ map soonest_of (items mail)
-    pub times_is : times ≡ map soonest_of (items lists)
+    pub soonest_is : soonest ≡ map (soonest_of parts) (items mail)
+    pub times_is : times ≡ map (soonest_of parts) (items lists)
     pub room : HasRoomBehind mail (items lists)
     pub empty : (k : ℕ) → k < w → get_or (items lists) k [] ≡ []
     pub past : (k : ℕ) → w ≤ k → get_or (items lists) k [] ≡ get_or (items dealt) k []
 
-  pub joins_next : (w : ℕ) (mail lists old dealt : List (Vec (Signed Event) Z)) (soonest times : List ℕ) (v u d e : Vec (Signed Event) Z) (t : ℕ)
+  pub joins_next : (w : ℕ) (mail lists old dealt : List (Vec (Signed E) Z)) (soonest times : List ℕ) (v u d e : Vec (Signed E) Z) (t : ℕ)
       → IsJoining w mail lists old dealt soonest times → w < length mail → w < length lists → v.items ≡ (get_or mail w d).items ++ (get_or lists w e).items → u.items ≡ []
       → t ≡ min (get_or soonest w 0) (get_or times w 0) → IsJoining (w + 1) (set mail w v) (set lists w u) old dealt (set soonest w t) (set times w NEVER)
   joins_next w mail lists old dealt soonest times v u d e t is in_mail in_lists put none least =
@@ -130,15 +131,15 @@ module _ {Z : Type 0} where
       let lists_now : items (set lists w u) ≡ set (items lists) w [] = items_set lists w u [] none in
       let many : length (items mail) ≡ length mail = length_items mail in
       let many_lists : length (items lists) ≡ length lists = length_items lists in
-      let soon : get_or soonest w 0 ≡ soonest_of xs = ap (λ r. get_or r w 0) is.soonest_is ∙ get_or-map soonest_of (items mail) w [] 0 (omega arith) in
-      let next : get_or times w 0 ≡ soonest_of ys = ap (λ r. get_or r w 0) is.times_is ∙ get_or-map soonest_of (items lists) w [] 0 (omega arith) in
-      let time : t ≡ soonest_of (xs ++ ys) = least ∙ ((λ i. min (soon i) (next i)) ∙ sym (soonest_both xs ys)) in
+      let soon : get_or soonest w 0 ≡ soonest_of parts xs = ap (λ r. get_or r w 0) is.soonest_is ∙ get_or-map (soonest_of parts) (items mail) w [] 0 (omega arith) in
+      let next : get_or times w 0 ≡ soonest_of parts ys = ap (λ r. get_or r w 0) is.times_is ∙ get_or-map (soonest_of parts) (items lists) w [] 0 (omega arith) in
+      let time : t ≡ soonest_of parts (xs ++ ys) = least ∙ ((λ i. min (soon i) (next i)) ∙ sym (soonest_both parts xs ys)) in
       let inside : w < length (items lists) = omega arith in
       record {
         all = (λ i. behind (mail_now i) (lists_now i)) ∙ (behind_moved (items mail) (items lists) w (omega arith) (omega arith) ∙ is.all);
-        soonest_is = (λ i. set (is.soonest_is i) w (time i)) ∙ (sym (map-set soonest_of (items mail) w (xs ++ ys)) ∙ ap (map soonest_of) (sym mail_now));
-        times_is = ap (λ r. set r w NEVER) is.times_is ∙ (sym (map-set soonest_of (items lists) w []) ∙ ap (map soonest_of) (sym lists_now));
-        room = subst (λ (ls : List (List (Signed Event))). HasRoomBehind (set mail w v) ls) (sym lists_now) (room_left mail (items lists) w v is.room inside);
+        soonest_is = (λ i. set (is.soonest_is i) w (time i)) ∙ (sym (map-set (soonest_of parts) (items mail) w (xs ++ ys)) ∙ ap (map (soonest_of parts)) (sym mail_now));
+        times_is = ap (λ r. set r w NEVER) is.times_is ∙ (sym (map-set (soonest_of parts) (items lists) w []) ∙ ap (map (soonest_of parts)) (sym lists_now));
+        room = subst (λ (ls : List (List (Signed E))). HasRoomBehind (set mail w v) ls) (sym lists_now) (room_left mail (items lists) w v is.room inside);
         empty = λ k below. ap (λ r. get_or r k []) lists_now ∙ (elim (cases_eq k w) [
           | inl same ↦ ap (λ j. get_or (set (items lists) w []) j []) same ∙ get_or-set_same (items lists) w [] [] inside
           | inr ne ↦ get_or-set_other (items lists) w k [] [] ne ∙ is.empty k (omega arith)
@@ -147,7 +148,7 @@ module _ {Z : Type 0} where
       }
 
   -- at the end nothing is left to put behind
-  pub none_left : (w : ℕ) (mail lists old dealt : List (Vec (Signed Event) Z)) (soonest times : List ℕ) → IsJoining w mail lists old dealt soonest times → min (length mail) (length lists) ≤ w
+  pub none_left : (w : ℕ) (mail lists old dealt : List (Vec (Signed E) Z)) (soonest times : List ℕ) → IsJoining w mail lists old dealt soonest times → min (length mail) (length lists) ≤ w
       → (k : ℕ) → k < length mail → get_or (items lists) k [] ≡ []
   none_left w mail lists old dealt soonest times is end k within =
       elim (cases_lt k w) [
@@ -155,7 +156,7 @@ module _ {Z : Type 0} where
         | inr beyond ↦ (let many = length_items lists in get_or_past (items lists) k [] (omega arith))
       ]
 
-  pub all_joined : (w : ℕ) (mail lists old dealt : List (Vec (Signed Event) Z)) (soonest times : List ℕ) → IsJoining w mail lists old dealt soonest times → min (length mail) (length lists) ≤ w
+  pub all_joined : (w : ℕ) (mail lists old dealt : List (Vec (Signed E) Z)) (soonest times : List ℕ) → IsJoining w mail lists old dealt soonest times → min (length mail) (length lists) ≤ w
       → items mail ≡ behind (items old) (items dealt)
   all_joined w mail lists old dealt soonest times is end =
       let many = length_items mail in
@@ -163,11 +164,11 @@ module _ {Z : Type 0} where
 
   -- ---- lists emptied, place by place
 
-  pub cleared : (lists : List (Vec (Signed Event) Z)) (times : List ℕ) (w : ℕ) (u : Vec (Signed Event) Z) → times ≡ map soonest_of (items lists) → u.items ≡ [] → set times w NEVER ≡ map soonest_of (items (set lists w u))
+  pub cleared : (lists : List (Vec (Signed E) Z)) (times : List ℕ) (w : ℕ) (u : Vec (Signed E) Z) → times ≡ map (soonest_of parts) (items lists) → u.items ≡ [] → set times w NEVER ≡ map (soonest_of parts) (items (set lists w u))
   cleared lists times w u is none =
-      ap (λ r. set r w NEVER) is ∙ (sym (map-set soonest_of (items lists) w []) ∙ ap (map soonest_of) (sym (items_set lists w u [] none)))
+      ap (λ r. set r w NEVER) is ∙ (sym (map-set (soonest_of parts) (items lists) w []) ∙ ap (map (soonest_of parts)) (sym (items_set lists w u [] none)))
 
-  pub emptied : (lists : List (Vec (Signed Event) Z)) (w : ℕ) (u : Vec (Signed Event) Z) → u.items ≡ [] → w < length lists → ((k : ℕ) → k < w → get_or (items lists) k [] ≡ [])
+  pub emptied : (lists : List (Vec (Signed E) Z)) (w : ℕ) (u : Vec (Signed E) Z) → u.items ≡ [] → w < length lists → ((k : ℕ) → k < w → get_or (items lists) k [] ≡ [])
       → (k : ℕ) → k < w + 1 → get_or (items (set lists w u)) k [] ≡ []
   emptied lists w u none within before k below =
       let many = length_items lists in
@@ -176,7 +177,7 @@ module _ {Z : Type 0} where
         | inr ne ↦ get_or-set_other (items lists) w k [] [] ne ∙ before k (omega arith)
       ])
 
-  pub all_emptied : (lists : List (Vec (Signed Event) Z)) (end : ℕ) → ((k : ℕ) → k < end → get_or (items lists) k [] ≡ []) → length lists ≤ end → NoneDealt (items lists)
+  pub all_emptied : (lists : List (Vec (Signed E) Z)) (end : ℕ) → ((k : ℕ) → k < end → get_or (items lists) k [] ≡ []) → length lists ≤ end → NoneDealt (items lists)
   all_emptied lists end before past k =
       elim (cases_lt k end) [
         | inl below ↦ before k below

@@ -4,10 +4,10 @@ use Rattle.std.proofs.lemmas.List.{map-append}
 use Rattle.std.proofs.lemmas.List.Sums.{fold-append}
 use Rattle.std.specs.List.{AllByRecursion, flat_map, fold, reduce}
 use Rattle.std.specs.Option.{MatchOption, option_to_list}
-use Rattle.tw_event.specs.declared.event.Event.{Event}
-use Rattle.tw_exchange.specs.Board.{least_bound, least_report, message_times}
+use Rattle.tw_exchange.specs.AnyBoard.{least_bound, least_report, message_times}
 use Rattle.tw_exchange.specs.Rows.{lesser_time, soonest_of}
 use Rattle.tw_exchange.specs.declared.mail.TheConstants.{NEVER}
+use Rattle.tw_process.specs.Parts.{Parts}
 use Rattle.tw_sim.specs.declared.machine.Signed.{Signed}
 
 -- ---- passes
@@ -43,25 +43,26 @@ pub at_most : (s : ℕ) (xs : List ℕ) → fold min s xs ≤ s
 at_most s [] = omega arith
 at_most s (x ∷ xs) = let h = at_most (min s x) xs in omega arith
 
--- the least time of all mail is that of the soonest of each worker's
-mail_found : (s : ℕ) (mail : List (List (Signed Event))) → s ≤ NEVER → fold min s (message_times (flat_map (λ m. m) mail)) ≡ fold min s (map soonest_of mail)
-mail_found s [] end = refl
-mail_found s (m ∷ ms) end =
-    let cap : min NEVER s ≡ s = omega arith in
-    let here : fold min s (message_times m) ≡ min s (soonest_of m) =
-    (ap (λ n. fold min n (message_times m)) (sym cap) ∙ (least_of_two NEVER s (message_times m) ∙ (let swap : min (soonest_of m) s ≡ min s (soonest_of m) = omega arith in swap))) in
-    let below : min s (soonest_of m) ≤ NEVER = omega arith in
-    ap (fold min s) (map-append (λ x. x.event.time) m (flat_map (λ m. m) ms))
-    ∙ (fold-append min s (message_times m) (message_times (flat_map (λ m. m) ms))
-    ∙ (ap (λ n. fold min n (message_times (flat_map (λ m. m) ms))) here ∙ mail_found (min s (soonest_of m)) ms below))
+module _ {E : Type 0} (parts : Parts E) where
+  -- the least time of all mail is that of the soonest of each worker's
+  mail_found : (s : ℕ) (mail : List (List (Signed E))) → s ≤ NEVER → fold min s (message_times parts (flat_map (λ m. m) mail)) ≡ fold min s (map (soonest_of parts) mail)
+  mail_found s [] end = refl
+  mail_found s (m ∷ ms) end =
+      let cap : min NEVER s ≡ s = omega arith in
+      let here : fold min s (message_times parts m) ≡ min s (soonest_of parts m) =
+      (ap (λ n. fold min n (message_times parts m)) (sym cap) ∙ (least_of_two NEVER s (message_times parts m) ∙ (let swap : min (soonest_of parts m) s ≡ min s (soonest_of parts m) = omega arith in swap))) in
+      let below : min s (soonest_of parts m) ≤ NEVER = omega arith in
+      ap (fold min s) (map-append (λ x. parts.time x.event) m (flat_map (λ m. m) ms))
+      ∙ (fold-append min s (message_times parts m) (message_times parts (flat_map (λ m. m) ms))
+      ∙ (ap (λ n. fold min n (message_times parts (flat_map (λ m. m) ms))) here ∙ mail_found (min s (soonest_of parts m)) ms below))
 
--- the bound, from the row of least times
-pub bound_found : (reports : List (Option ℕ)) (mail : List (List (Signed Event))) (stop : ℕ) → stop ≤ NEVER
-    → least_bound reports mail stop ≡ fold min (fold min stop (map soonest_of mail)) (flat_map option_to_list reports)
-bound_found reports mail stop end =
-    let told = flat_map option_to_list reports in
-    let waits = message_times (flat_map (λ m. m) mail) in
-    fold-append min stop told waits ∙ (either_order stop told waits ∙ ap (λ n. fold min n told) (mail_found stop mail end))
+  -- the bound, from the row of least times
+  pub bound_found : (reports : List (Option ℕ)) (mail : List (List (Signed E))) (stop : ℕ) → stop ≤ NEVER
+      → least_bound parts reports mail stop ≡ fold min (fold min stop (map (soonest_of parts) mail)) (flat_map option_to_list reports)
+  bound_found reports mail stop end =
+      let told = flat_map option_to_list reports in
+      let waits = message_times parts (flat_map (λ m. m) mail) in
+      fold-append min stop told waits ∙ (either_order stop told waits ∙ ap (λ n. fold min n told) (mail_found stop mail end))
 
 -- ---- what is not before a time
 
@@ -90,13 +91,14 @@ reports_all P [] h = tt
 reports_all P (None ∷ rs) h = reports_all P rs (λ w. h (suc w))
 reports_all P (Some a ∷ rs) h = (h zero, reports_all P rs (λ w. h (suc w)))
 
-all_times : (P : ℕ → Type 0) (ms : List (Signed Event)) → AllByRecursion (λ m. P m.event.time) ms → AllByRecursion P (message_times ms)
-all_times P [] h = tt
-all_times P (m ∷ ms) h = (h.0, all_times P ms h.1)
+module _ {E : Type 0} (parts : Parts E) where
+  all_times : (P : ℕ → Type 0) (ms : List (Signed E)) → AllByRecursion (λ m. P (parts.time m.event)) ms → AllByRecursion P (message_times parts ms)
+  all_times P [] h = tt
+  all_times P (m ∷ ms) h = (h.0, all_times P ms h.1)
 
-times_all : (P : ℕ → Type 0) (ms : List (Signed Event)) → AllByRecursion P (message_times ms) → AllByRecursion (λ m. P m.event.time) ms
-times_all P [] h = tt
-times_all P (m ∷ ms) h = (h.0, times_all P ms h.1)
+  times_all : (P : ℕ → Type 0) (ms : List (Signed E)) → AllByRecursion P (message_times parts ms) → AllByRecursion (λ m. P (parts.time m.event)) ms
+  times_all P [] h = tt
+  times_all P (m ∷ ms) h = (h.0, times_all P ms h.1)
 
 pub mail_each : {X : Type 0} (P : X → Type 0) (mail : List (List X)) → AllByRecursion P (flat_map (λ m. m) mail) → (w : ℕ) → AllByRecursion P (get_or mail w [])
 mail_each P [] h w = tt
@@ -119,54 +121,55 @@ not_before : (b s : ℕ) (xs : List ℕ) → b ≤ s → AllByRecursion (λ x. b
 not_before b s [] h k = h
 not_before b s (x ∷ xs) h k = let first = k.0 in not_before b (min s x) xs (omega arith) k.1
 
--- the bound is not beyond the stop, a report, or the time of any mail
-pub bound_stop : (reports : List (Option ℕ)) (mail : List (List (Signed Event))) (stop : ℕ) → least_bound reports mail stop ≤ stop
-bound_stop reports mail stop = at_most stop (flat_map option_to_list reports ++ message_times (flat_map (λ m. m) mail))
+module _ {E : Type 0} (parts : Parts E) where
+  -- the bound is not beyond the stop, a report, or the time of any mail
+  pub bound_stop : (reports : List (Option ℕ)) (mail : List (List (Signed E))) (stop : ℕ) → least_bound parts reports mail stop ≤ stop
+  bound_stop reports mail stop = at_most stop (flat_map option_to_list reports ++ message_times parts (flat_map (λ m. m) mail))
 
-pub bound_reports : (reports : List (Option ℕ)) (mail : List (List (Signed Event))) (stop w : ℕ) → IfSome (get_or reports w None) (λ time. least_bound reports mail stop ≤ time)
-bound_reports reports mail stop w =
-    let told = flat_map option_to_list reports in
-    let waits = message_times (flat_map (λ m. m) mail) in
-    let P : ℕ → Type 0 = λ time. least_bound reports mail stop ≤ time in
-    reports_each P reports (all_left P told waits (least_below stop (told ++ waits))) w
+  pub bound_reports : (reports : List (Option ℕ)) (mail : List (List (Signed E))) (stop w : ℕ) → IfSome (get_or reports w None) (λ time. least_bound parts reports mail stop ≤ time)
+  bound_reports reports mail stop w =
+      let told = flat_map option_to_list reports in
+      let waits = message_times parts (flat_map (λ m. m) mail) in
+      let P : ℕ → Type 0 = λ time. least_bound parts reports mail stop ≤ time in
+      reports_each P reports (all_left P told waits (least_below stop (told ++ waits))) w
 
-pub bound_mail : (reports : List (Option ℕ)) (mail : List (List (Signed Event))) (stop w : ℕ) → AllByRecursion (λ m. least_bound reports mail stop ≤ m.event.time) (get_or mail w [])
-bound_mail reports mail stop w =
-    let told = flat_map option_to_list reports in
-    let waits = message_times (flat_map (λ m. m) mail) in
-    let P : ℕ → Type 0 = λ time. least_bound reports mail stop ≤ time in
-    mail_each (λ m. P m.event.time) mail (times_all P (flat_map (λ m. m) mail) (all_right P told waits (least_below stop (told ++ waits)))) w
+  pub bound_mail : (reports : List (Option ℕ)) (mail : List (List (Signed E))) (stop w : ℕ) → AllByRecursion (λ m. least_bound parts reports mail stop ≤ parts.time m.event) (get_or mail w [])
+  bound_mail reports mail stop w =
+      let told = flat_map option_to_list reports in
+      let waits = message_times parts (flat_map (λ m. m) mail) in
+      let P : ℕ → Type 0 = λ time. least_bound parts reports mail stop ≤ time in
+      mail_each (λ m. P (parts.time m.event)) mail (times_all parts P (flat_map (λ m. m) mail) (all_right P told waits (least_below stop (told ++ waits)))) w
 
--- and it is the last such time
-pub bound_rises : (b : ℕ) (reports : List (Option ℕ)) (mail : List (List (Signed Event))) (stop : ℕ) → b ≤ stop → ((w : ℕ) → IfSome (get_or reports w None) (λ time. b ≤ time))
-    → ((w : ℕ) → AllByRecursion (λ m. b ≤ m.event.time) (get_or mail w [])) → b ≤ least_bound reports mail stop
-bound_rises b reports mail stop h r m =
-    let told = flat_map option_to_list reports in
-    let waits = message_times (flat_map (λ m. m) mail) in
-    let P : ℕ → Type 0 = λ time. b ≤ time in
-    not_before b stop (told ++ waits) h (all_both P told waits (reports_all P reports r) (all_times P (flat_map (λ m. m) mail) (mail_all (λ m. P m.event.time) mail m)))
+  -- and it is the last such time
+  pub bound_rises : (b : ℕ) (reports : List (Option ℕ)) (mail : List (List (Signed E))) (stop : ℕ) → b ≤ stop → ((w : ℕ) → IfSome (get_or reports w None) (λ time. b ≤ time))
+      → ((w : ℕ) → AllByRecursion (λ m. b ≤ parts.time m.event) (get_or mail w [])) → b ≤ least_bound parts reports mail stop
+  bound_rises b reports mail stop h r m =
+      let told = flat_map option_to_list reports in
+      let waits = message_times parts (flat_map (λ m. m) mail) in
+      let P : ℕ → Type 0 = λ time. b ≤ time in
+      not_before b stop (told ++ waits) h (all_both P told waits (reports_all P reports r) (all_times parts P (flat_map (λ m. m) mail) (mail_all (λ m. P (parts.time m.event)) mail m)))
 
--- a worker's report that is not before b
-pub report_rises : (b : ℕ) (report : Option ℕ) (messages : List (Signed Event)) → IfSome report (λ time. b ≤ time) → AllByRecursion (λ m. b ≤ m.event.time) messages
-    → IfSome (least_report report messages) (λ time. b ≤ time)
-report_rises b None [] h k = tt
-report_rises b None (m ∷ ms) h k = not_before b m.event.time (message_times ms) k.0 (all_times (λ time. b ≤ time) ms k.1)
-report_rises b (Some a) ms h k = not_before b a (message_times ms) h (all_times (λ time. b ≤ time) ms k)
+  -- a worker's report that is not before b
+  pub report_rises : (b : ℕ) (report : Option ℕ) (messages : List (Signed E)) → IfSome report (λ time. b ≤ time) → AllByRecursion (λ m. b ≤ parts.time m.event) messages
+      → IfSome (least_report parts report messages) (λ time. b ≤ time)
+  report_rises b None [] h k = tt
+  report_rises b None (m ∷ ms) h k = not_before b (parts.time m.event) (message_times parts ms) k.0 (all_times parts (λ time. b ≤ time) ms k.1)
+  report_rises b (Some a) ms h k = not_before b a (message_times parts ms) h (all_times parts (λ time. b ≤ time) ms k)
 
--- what is not after the least of times is after none of them
-lowered : (b s : ℕ) (ms : List (Signed Event)) → b ≤ fold min s (message_times ms) → AllByRecursion (λ m. b ≤ m.event.time) ms
-lowered b s ms h = times_all (λ t. b ≤ t) ms (weaker (λ t. fold min s (message_times ms) ≤ t) (λ t. b ≤ t) (λ t k. omega arith) (message_times ms) (least_below s (message_times ms)))
+  -- what is not after the least of times is after none of them
+  lowered : (b s : ℕ) (ms : List (Signed E)) → b ≤ fold min s (message_times parts ms) → AllByRecursion (λ m. b ≤ parts.time m.event) ms
+  lowered b s ms h = times_all parts (λ t. b ≤ t) ms (weaker (λ t. fold min s (message_times parts ms) ≤ t) (λ t. b ≤ t) (λ t k. omega arith) (message_times parts ms) (least_below s (message_times parts ms)))
 
--- nothing is before the least report
-pub report_below : (b : ℕ) (report : Option ℕ) (messages : List (Signed Event)) → IfSome (least_report report messages) (λ time. b ≤ time) → AllByRecursion (λ m. b ≤ m.event.time) messages
-report_below b None [] h = tt
-report_below b None (m ∷ ms) h = let k = at_most m.event.time (message_times ms) in (omega arith, lowered b m.event.time ms h)
-report_below b (Some a) ms h = lowered b a ms h
+  -- nothing is before the least report
+  pub report_below : (b : ℕ) (report : Option ℕ) (messages : List (Signed E)) → IfSome (least_report parts report messages) (λ time. b ≤ time) → AllByRecursion (λ m. b ≤ parts.time m.event) messages
+  report_below b None [] h = tt
+  report_below b None (m ∷ ms) h = let k = at_most (parts.time m.event) (message_times parts ms) in (omega arith, lowered b (parts.time m.event) ms h)
+  report_below b (Some a) ms h = lowered b a ms h
 
--- nor is any mail before the bound
-pub bound_all : (reports : List (Option ℕ)) (mail : List (List (Signed Event))) (stop : ℕ) → AllByRecursion (λ m. least_bound reports mail stop ≤ m.event.time) (flat_map (λ m. m) mail)
-bound_all reports mail stop =
-    let told = flat_map option_to_list reports in
-    let waits = message_times (flat_map (λ m. m) mail) in
-    let P : ℕ → Type 0 = λ time. least_bound reports mail stop ≤ time in
-    times_all P (flat_map (λ m. m) mail) (all_right P told waits (least_below stop (told ++ waits)))
+  -- nor is any mail before the bound
+  pub bound_all : (reports : List (Option ℕ)) (mail : List (List (Signed E))) (stop : ℕ) → AllByRecursion (λ m. least_bound parts reports mail stop ≤ parts.time m.event) (flat_map (λ m. m) mail)
+  bound_all reports mail stop =
+      let told = flat_map option_to_list reports in
+      let waits = message_times parts (flat_map (λ m. m) mail) in
+      let P : ℕ → Type 0 = λ time. least_bound parts reports mail stop ≤ time in
+      times_all parts P (flat_map (λ m. m) mail) (all_right P told waits (least_below stop (told ++ waits)))

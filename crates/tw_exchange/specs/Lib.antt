@@ -1,3 +1,4 @@
+pub mod AnyBoard
 pub mod Board
 pub mod Owners
 pub mod Rows

@@ -2,7 +2,7 @@
 
 ghost use Rattle.std.specs.Prelude.{◌≡◌, ◌↔◌, ◌<◌, ◌≤◌, IfErr, IfOk, IsTrue, OnErr, OnOk, false, true, length, Err};
 ghost use Rattle.std.specs.Result.{IsErrAnd};
-ghost use Rattle.tw_exchange.specs.Board.{IsBoard, handed, is_early, is_homeless, mail_of, new_board, opening_owned, report_of, visited, workers};
+ghost use Rattle.tw_exchange.specs.AnyBoard.{IsBoard, handed, is_early, is_homeless, mail_of, new_board, opening_owned, report_of, visited, workers};
 ghost use Rattle.tw_exchange.specs.Owners.{list_of};
 ghost use Rattle.tw_exchange.specs.declared.visit.VisitFault.TheVariants.{Early, NoRouter, NoWorker};
 ghost use Rattle.tw_model.specs.declared.memory.OrMemory.TheVariants as or_memory;
@@ -12,24 +12,24 @@ mod moving;
 
 use crate::mail::NEVER;
 use crate::owners::Owners;
-use crate::parcels::Parcels;
+use crate::parcels::AnyParcels;
 use crate::rows::{no_mail, row};
 use crate::times::is_early;
-use crate::visit::{Back, Visit, VisitFault};
+use crate::visit::{AnyBack, AnyVisit, VisitFault};
 use std::alloc::{AllocError, Global};
 use std::marker::Model;
-use tw_event::Event;
 use tw_model::OrMemory;
+use tw_process::Timed;
 use tw_sim::Signed;
 
 /// Where workers leave messages for one another, and learn the bound.
 #[derive(Drop)]
-pub struct Exchange {
+pub struct AnyExchange<E: Timed> {
     alloc: Global,
     workers: u32,
     owners: Owners,
     // By worker, as the rows below: what waits for it, in the order deposited.
-    mail: Vec<Vec<Signed<Event>>>,
+    mail: Vec<Vec<Signed<E>>>,
     // The least time of its mail, so that a visit need not look through what waits for others.
     soonest: Vec<u64>,
     reports: Vec<Option<u64>>,
@@ -38,28 +38,33 @@ pub struct Exchange {
     halted: bool,
 }
 
-impl Model for Exchange {
-    ghost use Rattle.tw_exchange.specs.Board.{Board};
+impl<E: Timed> Model for AnyExchange<E> {
+    ghost use Rattle.tw_exchange.specs.AnyBoard.{AnyBoard};
     ghost use Rattle.tw_exchange.specs.Inside.{IsExchange, board_of};
 
-    ghost Value = { Board };
+    ghost Value = { AnyBoard E };
 
     ghost view = { board_of };
 
-    ghost invariant = { IsExchange };
+    ghost invariant = { IsExchange E.parts };
 }
 
-impl Exchange {
+impl<E: Timed> AnyExchange<E> {
     /// No mail for any of so many workers, each of which has reported the bound. The bound is not beyond the
     /// stop; both are in ticks. Routers are dealt out to workers in turn: router r is worker r mod `workers`'s.
-    pub fn new(alloc: Global, workers: u32, bound: u64, stop: u64) -> Result<Exchange, AllocError>
+    pub fn new(
+        alloc: Global,
+        workers: u32,
+        bound: u64,
+        stop: u64,
+    ) -> Result<AnyExchange<E>, AllocError>
         requires { bound ≤ stop }
         ensures { IfOk result (λ x. x ≡ new_board workers bound stop) }
     {
-        Exchange::open(alloc, workers, bound, stop, Owners::InTurn)
+        AnyExchange::open(alloc, workers, bound, stop, Owners::InTurn)
     }
 
-    /// As [`Exchange::new`], with the worker of each router by a list, from router 0 on. A router past its end,
+    /// As [`AnyExchange::new`], with the worker of each router by a list, from router 0 on. A router past its end,
     /// or whose worker is not below `workers`, has none. It takes memory for the workers' rows alone.
     pub fn with_owners(
         alloc: Global,
@@ -67,11 +72,11 @@ impl Exchange {
         bound: u64,
         stop: u64,
         owners: Vec<u32>,
-    ) -> Result<Exchange, AllocError>
+    ) -> Result<AnyExchange<E>, AllocError>
         requires { bound ≤ stop }
         ensures { IfOk result (λ x. x ≡ opening_owned owners.items workers bound stop) }
     {
-        Exchange::open(alloc, workers, bound, stop, Owners::Listed(owners))
+        AnyExchange::open(alloc, workers, bound, stop, Owners::Listed(owners))
     }
 
     /// No mail for any of so many workers, by what says the worker of each router.
@@ -81,11 +86,11 @@ impl Exchange {
         bound: u64,
         stop: u64,
         owners: Owners,
-    ) -> Result<Exchange, AllocError>
+    ) -> Result<AnyExchange<E>, AllocError>
         requires { bound ≤ stop }
         ensures { IfOk result (λ x. x ≡ record (new_board workers bound stop) { owners = list_of owners }) }
     {
-        Ok(Exchange {
+        Ok(AnyExchange {
             alloc,
             workers,
             owners,
@@ -101,7 +106,7 @@ impl Exchange {
     /// How many workers there are. They are numbered from 0.
     pub fn workers(&self) -> u32
         ensures value { result ≡ workers self.now }
-        ensures board { IsBoard self.now }
+        ensures board { IsBoard E.parts self.now }
     {
         self.workers
     }
@@ -109,7 +114,7 @@ impl Exchange {
     /// The time before which nothing waits or is on its way, in ticks. It never falls.
     pub fn bound(&self) -> u64
         ensures value { result ≡ self.now.bound }
-        ensures board { IsBoard self.now }
+        ensures board { IsBoard E.parts self.now }
     {
         self.bound
     }
@@ -117,7 +122,7 @@ impl Exchange {
     /// The time from which on nothing is handled, in ticks.
     pub fn stop(&self) -> u64
         ensures value { result ≡ self.now.stop }
-        ensures board { IsBoard self.now }
+        ensures board { IsBoard E.parts self.now }
     {
         self.stop
     }
@@ -133,7 +138,7 @@ impl Exchange {
     /// there is no such worker.
     pub fn report(&self, worker: u32) -> Option<u64>
         ensures value { result ≡ report_of worker self.now }
-        ensures board { IsBoard self.now }
+        ensures board { IsBoard E.parts self.now }
     {
         match self.reports.get(worker as usize) {
             Some(report) => *report,
@@ -142,9 +147,9 @@ impl Exchange {
     }
 
     /// What waits for a worker, in the order deposited: nothing where there is no such worker.
-    pub fn mail(&self, worker: u32) -> &[Signed<Event>]
+    pub fn mail(&self, worker: u32) -> &[Signed<E>]
         ensures value { result.now ≡ mail_of worker self.now }
-        ensures board { IsBoard self.now }
+        ensures board { IsBoard E.parts self.now }
     {
         match self.mail.get(worker as usize) {
             Some(mail) => mail,
@@ -154,7 +159,7 @@ impl Exchange {
 
     /// A worker deposits what it has sent, reports the least time of what it still has, if it has anything,
     /// and takes its mail. Each message of `out` goes to the mail of the worker that has its receiver, as
-    /// [`Exchange::owner`] says. The worker is handed all of its own mail in the order deposited, this
+    /// [`AnyExchange::owner`] says. The worker is handed all of its own mail in the order deposited, this
     /// deposit's included. Its report becomes the least of `report` and of the times of what it is handed, and
     /// the bound the least of all reports, of all mail that is left, and of the stop. Times are in ticks.
     ///
@@ -164,42 +169,42 @@ impl Exchange {
     pub fn visit(
         &mut self,
         worker: u32,
-        out: Vec<Signed<Event>>,
+        out: Vec<Signed<E>>,
         report: Option<u64>,
-    ) -> Result<Visit, Back>
-        ensures board { OnOk result (self.new ≡ visited worker out.items report self.old) }
-        ensures mail { IfOk result (λ visit. visit.mail.items ≡ handed worker out.items self.old) }
+    ) -> Result<AnyVisit<E>, AnyBack<E>>
+        ensures board { OnOk result (self.new ≡ visited E.parts worker out.items report self.old) }
+        ensures mail { IfOk result (λ visit. visit.mail.items ≡ handed E.parts worker out.items self.old) }
         ensures bound { IfOk result (λ visit. visit.bound ≡ self.new.bound) }
         ensures halted { IfOk result (λ visit. visit.halted ≡ self.old.halted) }
         ensures no_worker { IsErrAnd result (λ back. back.why ≡ or_memory.Fault NoWorker) ↔ (workers self.old ≤ worker) }
         ensures early { IsErrAnd result (λ back. back.why ≡ or_memory.Fault Early)
-            ↔ ((worker < workers self.old) × IsTrue (is_early out.items report self.old)) }
+            ↔ ((worker < workers self.old) × IsTrue (is_early E.parts out.items report self.old)) }
         ensures no_router { IsErrAnd result (λ back. back.why ≡ or_memory.Fault NoRouter)
-            ↔ ((worker < workers self.old) × (is_early out.items report self.old ≡ false) × IsTrue (is_homeless out.items self.old)) }
+            ↔ ((worker < workers self.old) × (is_early E.parts out.items report self.old ≡ false) × IsTrue (is_homeless E.parts out.items self.old)) }
         ensures memory { IsErrAnd result (λ back. back.why ≡ or_memory.Memory) → 0 < length out.items }
         ensures back { IfErr result (λ back. back.out ≡ out) }
         ensures err { OnErr result (self.new ≡ self.old) }
         ensures rising { self.old.bound ≤ self.new.bound }
-        ensures whole { IsBoard self.new }
+        ensures whole { IsBoard E.parts self.new }
     {
         if let Err(fault) = self.may_visit(worker, is_early(&out, report, self.bound())) {
-            return Err(Back {
+            return Err(AnyBack {
                 out,
                 why: OrMemory::Fault(fault),
             });
         }
-        let mut parcels = Parcels::new(self.alloc);
+        let mut parcels = AnyParcels::new(self.alloc);
         if let Err(why) = parcels.deal(&self.owners, self.workers, &out) {
-            return Err(Back { out, why });
+            return Err(AnyBack { out, why });
         }
         let mut mail = Vec::new(self.alloc);
         match self.visit_dealt(worker, &mut parcels, report, &mut mail) {
-            Ok(told) => Ok(Visit {
+            Ok(told) => Ok(AnyVisit {
                 mail,
                 bound: told.bound,
                 halted: told.halted,
             }),
-            Err(why) => Err(Back { out, why }),
+            Err(why) => Err(AnyBack { out, why }),
         }
     }
 
@@ -208,7 +213,7 @@ impl Exchange {
         ensures no_worker { result ≡ Err NoWorker ↔ (workers self.now ≤ worker) }
         ensures early { result ≡ Err Early ↔ ((worker < workers self.now) × IsTrue is_early) }
         ensures no_router { result ≡ Err NoRouter → ⊥ }
-        ensures board { IsBoard self.now }
+        ensures board { IsBoard E.parts self.now }
     {
         if worker >= self.workers {
             Err(VisitFault::NoWorker)

@@ -2,11 +2,11 @@
 
 ghost use Rattle.std.specs.Prelude.{◌≡◌, ◌<◌, IfOk, length, nat_lt, slice_set};
 ghost use Rattle.std.specs.Option.{IsSomeAnd, option_map};
-ghost use Rattle.tw_exchange.specs.Board.{any_homeless, worker_for};
+ghost use Rattle.tw_exchange.specs.AnyBoard.{any_homeless, worker_for};
 ghost use Rattle.tw_exchange.specs.Owners.{list_of};
 
 use std::alloc::{AllocError, Global};
-use tw_event::Event;
+use tw_process::Timed;
 use tw_sim::{Signed, owner};
 
 /// What says the worker of a router.
@@ -49,25 +49,23 @@ impl Owners {
         }
     }
 
-    /// Whether one of so many workers has a router.
+    /// Whether one of so many workers has the router that a message is for.
     #[inline(always)]
-    fn has_worker(&self, router: u32, workers: usize) -> bool
+    fn has_worker<E: Timed>(&self, message: &Signed<E>, workers: usize) -> bool
         requires { 0 < workers }
-        ensures { result ≡ nat_lt (worker_for (list_of self.now) workers router) workers }
+        ensures { result ≡ nat_lt (worker_for (list_of self.now) workers (E.parts.dst message.now.event)) workers }
     {
-        self.worker_for(router, workers) < workers
+        self.worker_for(message.event.dst(), workers) < workers
     }
 
     /// Whether a message is for a router that none of so many workers has.
-    pub(crate) fn is_any_homeless(&self, out: &[Signed<Event>], workers: usize) -> bool
+    pub(crate) fn is_any_homeless<E: Timed>(&self, out: &[Signed<E>], workers: usize) -> bool
         requires { 0 < workers }
-        ensures { result ≡ any_homeless (list_of self.now) workers out.now }
+        ensures { result ≡ any_homeless E.parts (list_of self.now) workers out.now }
     {
         match self {
             Owners::InTurn => false,
-            Owners::Listed(_) => out
-                .iter()
-                .any(|message| !self.has_worker(message.event.dst, workers)),
+            Owners::Listed(_) => out.iter().any(|message| !self.has_worker(message, workers)),
         }
     }
 

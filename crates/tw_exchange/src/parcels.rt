@@ -1,7 +1,7 @@
 //! What is dealt of messages to workers: a list for each.
 
 ghost use Rattle.std.specs.Prelude.{ℕ, ◌≡◌, ◌↔◌, ◌<◌, ◌≤◌, IsTrue, OnErr, OnOk, [], Err, false, length, map, replicate, slice_index_or};
-ghost use Rattle.tw_exchange.specs.Board.{AreDealt, NoneDealt, any_homeless};
+ghost use Rattle.tw_exchange.specs.AnyBoard.{AreDealt, NoneDealt, any_homeless};
 ghost use Rattle.tw_exchange.specs.Owners.{list_of};
 ghost use Rattle.tw_exchange.specs.Rows.{any_early, behind, items, soonest_of};
 ghost use Rattle.tw_exchange.specs.declared.visit.VisitFault.TheVariants.{Early, NoRouter, NoWorker};
@@ -15,39 +15,38 @@ use crate::times::is_any_early;
 use crate::visit::VisitFault;
 use std::alloc::{AllocError, Global};
 use std::marker::Model;
-use tw_event::Event;
 use tw_model::OrMemory;
+use tw_process::Timed;
 use tw_sim::Signed;
 
 /// Messages that are dealt out: for each worker those that are for it. Contracts see a list of these lists.
 #[derive(Drop)]
-pub struct Parcels {
+pub struct AnyParcels<E: Timed> {
     alloc: Global,
     // By worker, as the rows below. Where nothing was dealt yet there are none.
-    lists: Vec<Vec<Signed<Event>>>,
+    lists: Vec<Vec<Signed<E>>>,
     // The least time of each list, so that a visit need not look through it.
     soonest: Vec<u64>,
 }
 
-impl Model for Parcels {
+impl<E: Timed> Model for AnyParcels<E> {
     ghost use Rattle.std.specs.Prelude.{List};
-    ghost use Rattle.tw_event.specs.declared.event.Event.{Event};
     ghost use Rattle.tw_exchange.specs.Parcels.{IsParcels, lists_of};
     ghost use Rattle.tw_sim.specs.declared.machine.Signed.{Signed};
 
-    ghost Value = { List (List (Signed Event)) };
+    ghost Value = { List (List (Signed E)) };
 
     ghost view = { lists_of };
 
-    ghost invariant = { IsParcels };
+    ghost invariant = { IsParcels E.parts };
 }
 
-impl Parcels {
+impl<E: Timed> AnyParcels<E> {
     /// Nothing is dealt. It takes no memory.
-    pub fn new(alloc: Global) -> Parcels
+    pub fn new(alloc: Global) -> AnyParcels<E>
         ensures { result ≡ [] }
     {
-        Parcels {
+        AnyParcels {
             alloc,
             lists: Vec::new(alloc),
             soonest: Vec::new(alloc),
@@ -55,7 +54,7 @@ impl Parcels {
     }
 
     /// What is dealt to a worker, in the order of the messages.
-    pub fn list(&self, worker: u32) -> &[Signed<Event>]
+    pub fn list(&self, worker: u32) -> &[Signed<E>]
         ensures { result.now ≡ slice_index_or self.now worker [] }
     {
         match self.lists.get(worker as usize) {
@@ -73,11 +72,11 @@ impl Parcels {
         &mut self,
         owners: &Owners,
         workers: u32,
-        messages: &[Signed<Event>],
+        messages: &[Signed<E>],
     ) -> Result<(), OrMemory<VisitFault>>
         requires some { 0 < workers }
-        ensures dealt { OnOk result (AreDealt (list_of owners.now) workers messages.now self.new) }
-        ensures no_router { result ≡ Err (or_memory.Fault NoRouter) ↔ IsTrue (any_homeless (list_of owners.now) workers messages.now) }
+        ensures dealt { OnOk result (AreDealt E.parts (list_of owners.now) workers messages.now self.new) }
+        ensures no_router { result ≡ Err (or_memory.Fault NoRouter) ↔ IsTrue (any_homeless E.parts (list_of owners.now) workers messages.now) }
         ensures no_worker { result ≡ Err (or_memory.Fault NoWorker) → ⊥ }
         ensures early { result ≡ Err (or_memory.Fault Early) → ⊥ }
         ensures none { OnErr result (NoneDealt self.new) }
@@ -105,12 +104,12 @@ impl Parcels {
         &mut self,
         owners: &Owners,
         workers: u32,
-        messages: &[Signed<Event>],
+        messages: &[Signed<E>],
     ) -> Result<(), AllocError>
         requires some { 0 < workers }
         requires none { NoneDealt self.old }
-        requires home { any_homeless (list_of owners.now) workers messages.now ≡ false }
-        ensures dealt { OnOk result (AreDealt (list_of owners.now) workers messages.now self.new) }
+        requires home { any_homeless E.parts (list_of owners.now) workers messages.now ≡ false }
+        ensures dealt { OnOk result (AreDealt E.parts (list_of owners.now) workers messages.now self.new) }
         ensures none { OnErr result (NoneDealt self.new) }
         ensures wanted { OnErr result (0 < length messages.now) }
     {
@@ -142,11 +141,11 @@ impl Parcels {
     }
 
     /// Deals messages out to as many workers as there are lists, which are empty. For want of memory it is broken off.
-    fn put_rows(&mut self, owners: &Owners, messages: &[Signed<Event>]) -> Result<(), AllocError>
+    fn put_rows(&mut self, owners: &Owners, messages: &[Signed<E>]) -> Result<(), AllocError>
         requires some { 0 < length self.old }
         requires none { self.old ≡ replicate (length self.old) [] }
-        requires home { any_homeless (list_of owners.now) (length self.old) messages.now ≡ false }
-        ensures dealt { OnOk result (AreDealt (list_of owners.now) (length self.old) messages.now self.new) }
+        requires home { any_homeless E.parts (list_of owners.now) (length self.old) messages.now ≡ false }
+        ensures dealt { OnOk result (AreDealt E.parts (list_of owners.now) (length self.old) messages.now self.new) }
         ensures wanted { OnErr result (0 < length messages.now) }
     {
         deposit(&mut self.lists, &mut self.soonest, messages, owners)
@@ -154,7 +153,7 @@ impl Parcels {
 
     /// Whether the report or a message lies before the bound.
     pub(crate) fn is_early(&self, report: Option<u64>, bound: u64) -> bool
-        ensures { result ≡ any_early report bound self.now }
+        ensures { result ≡ any_early E.parts report bound self.now }
     {
         is_any_early(&self.soonest, report, bound)
     }
@@ -163,13 +162,13 @@ impl Parcels {
     /// Where memory is refused, all is as it was.
     pub(crate) fn join_to(
         &mut self,
-        mail: &mut [Vec<Signed<Event>>],
+        mail: &mut [Vec<Signed<E>>],
         soonest: &mut [u64],
     ) -> Result<(), AllocError>
-        requires { soonest.old ≡ map soonest_of (items mail.old) }
+        requires { soonest.old ≡ map (soonest_of E.parts) (items mail.old) }
         ensures ok { OnOk result (items mail.new ≡ behind (items mail.old) self.old) }
         ensures err { OnErr result (items mail.new ≡ items mail.old) }
-        ensures soonest { soonest.new ≡ map soonest_of (items mail.new) }
+        ensures soonest { soonest.new ≡ map (soonest_of E.parts) (items mail.new) }
         ensures empty { OnOk result ((w : ℕ) → w < length mail.old → slice_index_or self.new w [] ≡ []) }
         ensures past { OnOk result ((w : ℕ) → length mail.old ≤ w → slice_index_or self.new w [] ≡ slice_index_or self.old w []) }
         ensures kept { OnErr result (self.new ≡ self.old) }

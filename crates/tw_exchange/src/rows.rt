@@ -4,11 +4,11 @@ ghost use Rattle.std.specs.Prelude.{◌≡◌, [], IfOk, replicate};
 ghost use Rattle.tw_exchange.specs.Rows.{items};
 
 use std::alloc::{AllocError, Global};
-use tw_event::Event;
+use tw_process::Timed;
 use tw_sim::Signed;
 
 /// No mail for any of so many workers.
-pub fn no_mail(alloc: Global, workers: u32) -> Result<Vec<Vec<Signed<Event>>>, AllocError>
+pub fn no_mail<E: Timed>(alloc: Global, workers: u32) -> Result<Vec<Vec<Signed<E>>>, AllocError>
     ensures { IfOk result (λ mail. items mail.items ≡ replicate workers []) }
 {
     let mut mail = Vec::new(alloc);

@@ -1,14 +1,14 @@
 //! What a visit of the exchange tells.
 
-use tw_event::Event;
 use tw_model::OrMemory;
+use tw_process::Timed;
 use tw_sim::Signed;
 
 /// What a worker is told at a visit.
 #[derive(Drop, Debug)]
-pub struct Visit {
+pub struct AnyVisit<E: Timed> {
     /// The messages for its routers, in the order deposited.
-    pub mail: Vec<Signed<Event>>,
+    pub mail: Vec<Signed<E>>,
     /// The time before which nothing waits or is on its way, in ticks.
     pub bound: u64,
     /// Whether it shall take no further turn.
@@ -26,9 +26,9 @@ pub struct Told {
 
 /// A visit that changed nothing.
 #[derive(Drop, Debug)]
-pub struct Back {
+pub struct AnyBack<E: Timed> {
     /// What the worker wanted to deposit.
-    pub out: Vec<Signed<Event>>,
+    pub out: Vec<Signed<E>>,
     /// Why it was not taken.
     pub why: OrMemory<VisitFault>,
 }

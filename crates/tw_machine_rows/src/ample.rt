@@ -5,24 +5,17 @@
 use crate::messages::offers_of_origin;
 use std::alloc::Global;
 use tw_exchange::Exchange;
-
-/// Whether a worker deposits two messages in a new exchange.
-fn visits(alloc: Global) -> bool {
-    match Exchange::new(alloc, 2, 0, 20) {
-        Ok(mut exchange) => deposits(&mut exchange, alloc),
-        Err(_) => false,
-    }
-}
+use tw_rows::made::holds_of_made;
 
 /// Whether a worker deposits two messages.
 fn deposits(exchange: &mut Exchange, alloc: Global) -> bool {
-    match Vec::from_slice(alloc, &offers_of_origin()) {
-        Ok(out) => exchange.visit(0, out, None).is_ok(),
-        Err(_) => false,
-    }
+    let out = Vec::from_slice(alloc, &offers_of_origin());
+    out.is_ok_and(|out| exchange.visit(0, out, None).is_ok())
 }
 
 #[test]
 fn a_worker_visits_the_exchange(rt: HostRuntime) {
-    assert!(rt; visits(rt.alloc()));
+    let alloc = rt.alloc();
+    let made = Exchange::new(alloc, 2, 0, 20).ok();
+    assert!(rt; holds_of_made(made, |exchange| deposits(exchange, alloc)));
 }

@@ -31,12 +31,7 @@ pub(crate) fn receive(shard: &mut Shard<'_>, message: Signed<Event>) -> Result<(
     ensures { shard.new.terms.case ≡ shard.old.terms.case }
 {
     match shard.receive(message) {
-        Err(
-            Returned {
-                message,
-                why: OrMemory::Memory,
-            },
-        ) => shard.receive(message),
+        Err(returned) if returned.why == OrMemory::Memory => shard.receive(returned.message),
         answer => answer,
     }
 }

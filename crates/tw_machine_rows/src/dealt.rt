@@ -13,6 +13,7 @@ use std::alloc::{AllocError, Global};
 use tw_event::Event;
 use tw_exchange::{Exchange, Owners, Parcels, Signed, Told, VisitFault};
 use tw_model::OrMemory;
+use tw_rows::made::holds_of_made;
 
 /// What says the worker of each router, once more where memory was refused.
 fn owners_of(exchange: &Exchange) -> Result<Owners, AllocError>
@@ -24,34 +25,28 @@ fn owners_of(exchange: &Exchange) -> Result<Owners, AllocError>
     }
 }
 
+/// How a deal is answered.
+type Dealt = Result<(), OrMemory<VisitFault>>;
+
 /// Deals messages to so many workers, once more where memory was refused.
-fn deal_by(
-    owners: &Owners,
-    workers: u32,
-    parcels: &mut Parcels,
-    messages: &[Signed<Event>],
-) -> Result<(), OrMemory<VisitFault>>
-    ensures { OnOk result (AreDealt (list_of owners.now) workers messages.now parcels.new) }
+fn deal_by(owners: &Owners, workers: u32, parcels: &mut Parcels, out: &[Signed<Event>]) -> Dealt
+    ensures { OnOk result (AreDealt (list_of owners.now) workers out.now parcels.new) }
 {
     if workers == 0 {
         return Err(OrMemory::Fault(VisitFault::NoRouter));
     }
-    match parcels.deal(owners, workers, messages) {
-        Err(OrMemory::Memory) => parcels.deal(owners, workers, messages),
+    match parcels.deal(owners, workers, out) {
+        Err(OrMemory::Memory) => parcels.deal(owners, workers, out),
         answer => answer,
     }
 }
 
 /// Deals messages to the workers of an exchange.
-fn deal(
-    exchange: &Exchange,
-    parcels: &mut Parcels,
-    messages: &[Signed<Event>],
-) -> Result<(), OrMemory<VisitFault>>
-    ensures { OnOk result (AreDealt exchange.now.owners (workers exchange.now) messages.now parcels.new) }
+fn deal(exchange: &Exchange, parcels: &mut Parcels, out: &[Signed<Event>]) -> Dealt
+    ensures { OnOk result (AreDealt exchange.now.owners (workers exchange.now) out.now parcels.new) }
 {
     match owners_of(exchange) {
-        Ok(owners) => deal_by(&owners, exchange.workers(), parcels, messages),
+        Ok(owners) => deal_by(&owners, exchange.workers(), parcels, out),
         Err(_) => Err(OrMemory::Memory),
     }
 }
@@ -80,80 +75,45 @@ fn deposit(
     parcels: &mut Parcels,
     mail: &mut Vec<Signed<Event>>,
 ) -> Result<Told, OrMemory<VisitFault>> {
-    match deal(exchange, parcels, row.out) {
-        Ok(()) => {
-            mail.clear();
-            visit_dealt(exchange, row.worker, parcels, row.told, mail)
-        }
-        Err(fault) => Err(fault),
-    }
+    deal(exchange, parcels, row.1)?;
+    mail.clear();
+    visit_dealt(exchange, row.0, parcels, row.2, mail)
 }
 
 /// Whether a visit with what is dealt before is answered so, and leaves nothing dealt, or all where it is refused.
-pub(crate) fn is_dealt_so(
-    exchange: &mut Exchange,
-    row: &Row<'_>,
-    parcels: &mut Parcels,
-    mail: &mut Vec<Signed<Event>>,
-) -> bool {
-    let halted = exchange.is_halted();
-    let bound = row.left.0;
-    match (deposit(exchange, row, parcels, mail), row.fault) {
-        (Ok(told), None) => {
-            told == Told { bound, halted }
-                && mail.as_slice() == row.mail
-                && parcels.list(0).is_empty()
-                && parcels.list(1).is_empty()
+pub(crate) fn is_dealt_so(exchange: &mut Exchange, row: &Row<'_>, alloc: Global) -> bool {
+    let (halted, (_, out, _, due, (bound, _))) = (exchange.is_halted(), *row);
+    let (mut parcels, mut mail) = (Parcels::new(alloc), Vec::new(alloc));
+    let answer = deposit(exchange, row, &mut parcels, &mut mail);
+    match due {
+        Ok(due) => {
+            answer == Ok(Told { bound, halted })
+                && [mail.as_slice(), parcels.list(0), parcels.list(1)] == [due, &[], &[]]
         }
-        (Err(answer), Some(fault)) => {
-            answer == OrMemory::Fault(fault) && parcels.list(1) == row.out
-        }
-        _ => false,
+        Err(fault) => answer == Err(OrMemory::Fault(fault)) && parcels.list(1) == out,
     }
 }
 
 /// Messages, the answer where they are dealt, and what is dealt to workers 0, 1 and 2.
-#[derive(Clone, Copy)]
-struct Dealing<'a> {
-    messages: &'a [Signed<Event>],
-    answer: Result<(), OrMemory<VisitFault>>,
-    lists: [&'a [Signed<Event>]; 3],
-}
-
-/// Whether messages are dealt so.
-fn deals_so(exchange: &Exchange, parcels: &mut Parcels, deals: &[Dealing<'_>]) -> bool {
-    for row in deals {
-        if deal(exchange, parcels, row.messages) != row.answer
-            || [parcels.list(0), parcels.list(1), parcels.list(2)] != row.lists
-        {
-            return false;
-        }
-    }
-    true
-}
+type Deal<'a> = (&'a [Signed<Event>], Dealt, [&'a [Signed<Event>]; 3]);
 
 /// Whether messages are dealt so to the workers of an exchange, one deal after another.
-fn deals(made: Result<Exchange, AllocError>, deals: &[Dealing<'_>], alloc: Global) -> bool {
-    match made {
-        Ok(exchange) => deals_so(&exchange, &mut Parcels::new(alloc), deals),
-        Err(_) => false,
-    }
+fn deals(made: Option<Exchange>, deals: &[Deal<'_>], alloc: Global) -> bool {
+    let parcels = &mut Parcels::new(alloc);
+    holds_of_made(made, |exchange| {
+        deals.iter().all(|(out, answer, lists)| {
+            deal(exchange, parcels, out) == *answer
+                && [parcels.list(0), parcels.list(1), parcels.list(2)] == *lists
+        })
+    })
 }
 
 #[test]
 fn messages_are_dealt_by_worker(rt: HostRuntime) {
     let ([m, n], [c, d]) = (offers_of_origin(), offers_of_1());
-    let rows = [
-        Dealing {
-            messages: &[m, n],
-            answer: Ok(()),
-            lists: [&[n], &[m], &[]],
-        },
-        Dealing {
-            messages: &[c, d],
-            answer: Ok(()),
-            lists: [&[c, d], &[], &[]],
-        },
+    let rows: [Deal<'_>; 2] = [
+        (&[m, n], Ok(()), [&[n], &[m], &[]]),
+        (&[c, d], Ok(()), [&[c, d], &[], &[]]),
     ];
     assert!(rt; deals(exchange(rt.alloc()), &rows, rt.alloc()));
 }
@@ -161,31 +121,10 @@ fn messages_are_dealt_by_worker(rt: HostRuntime) {
 #[test]
 fn visits_hand_out_what_is_dealt(rt: HostRuntime) {
     let ([m, n], [a, b]) = (offers_of_origin(), early_offers_of_2());
-    let rows = [
-        Row {
-            worker: 0,
-            out: &[m, n],
-            told: None,
-            mail: &[n],
-            fault: None,
-            left: (0, Some(5)),
-        },
-        Row {
-            worker: 0,
-            out: &[a, b],
-            told: Some(7),
-            mail: &[a],
-            fault: None,
-            left: (0, Some(7)),
-        },
-        Row {
-            worker: 1,
-            out: &[],
-            told: None,
-            mail: &[m, b],
-            fault: None,
-            left: (1, Some(1)),
-        },
+    let rows: [Row<'_>; 3] = [
+        (0, &[m, n], None, Ok(&[n]), (0, Some(5))),
+        (0, &[a, b], Some(7), Ok(&[a]), (0, Some(7))),
+        (1, &[], None, Ok(&[m, b]), (1, Some(1))),
     ];
     assert!(rt; holds(exchange(rt.alloc()), &rows, Way::Dealt, rt.alloc()));
 }
@@ -197,10 +136,7 @@ fn dealt_messages_of_the_past_are_refused(rt: HostRuntime) {
 
 #[test]
 fn messages_for_nobody_are_not_dealt(rt: HostRuntime) {
-    let rows = [Dealing {
-        messages: &offers_of_origin(),
-        answer: Err(OrMemory::Fault(VisitFault::NoRouter)),
-        lists: [&[], &[], &[]],
-    }];
+    let refused = Err(OrMemory::Fault(VisitFault::NoRouter));
+    let rows: [Deal<'_>; 1] = [(&offers_of_origin(), refused, [&[], &[], &[]])];
     assert!(rt; deals(owned(rt.alloc(), &[1, 1]), &rows, rt.alloc()));
 }

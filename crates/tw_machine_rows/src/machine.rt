@@ -1,18 +1,17 @@
 //! The machine of all routers by calls.
 
 use crate::messages::{antimessage, early_offers_of_2, offers_of_1, offers_of_2, offers_of_origin};
-use crate::rows::{Row, holds};
+use crate::rows::holds;
 use tw_event::Event;
+use tw_rows::made::again_for_memory;
 use tw_rows::texts::DISAGREE;
+use tw_shard::Shard;
 use tw_sim::{Cancel, Signed, Step};
 use tw_warp::{OrMemory, Refusal, StopLower, Warp};
 
 /// Takes a step, once more where memory was refused.
 pub(crate) fn step(warp: &mut Warp<'_>, step: Step) -> Result<(), OrMemory<Refusal>> {
-    match warp.step(step) {
-        Err(OrMemory::Memory) => warp.step(step),
-        answer => answer,
-    }
+    again_for_memory(|| warp.step(step))
 }
 
 /// The message of a letter: `m` and `n` are what the origin offers, `a` and `b` what router 2 offers early,
@@ -20,33 +19,17 @@ pub(crate) fn step(warp: &mut Warp<'_>, step: Step) -> Result<(), OrMemory<Refus
 pub(crate) fn message(letter: u8) -> Option<Signed<Event>> {
     let ([m, n], [a, b]) = (offers_of_origin(), early_offers_of_2());
     let ([c, d], [e, f]) = (offers_of_1(), offers_of_2());
-    let message = match letter.to_ascii_lowercase() {
-        b'm' => m,
-        b'n' => n,
-        b'a' => a,
-        b'b' => b,
-        b'c' => c,
-        b'd' => d,
-        b'e' => e,
-        b'f' => f,
-        _ => return None,
-    };
-    Some(if letter.is_ascii_uppercase() {
-        antimessage(message)
-    } else {
-        message
-    })
+    let (small, back) = (letter.to_ascii_lowercase(), letter.is_ascii_uppercase());
+    let place = b"mnabcdef".iter().position(|known| *known == small)?;
+    let message = *[m, n, a, b, c, d, e, f].get(place)?;
+    Some(if back { antimessage(message) } else { message })
 }
 
 /// Whether the messages of these letters are on their way, in this order.
 fn has_in_flight(warp: &Warp<'_>, letters: &str) -> bool {
-    let letters = letters.as_bytes();
-    for place in 0..letters.len() {
-        if warp.message_at(place as u64 + 1) != message(letters[place]) {
-            return false;
-        }
-    }
-    warp.flight_len() == letters.len() as u128
+    let is_so = |(place, letter)| warp.message_at(place) == message(letter);
+    let count = letters.len() as u64;
+    warp.flight_len() == u128::from(count) && (1..=count).zip(letters.bytes()).all(is_so)
 }
 
 /// Steps of the machine, each with the messages on their way after it: router 2 hears the origin before
@@ -74,12 +57,7 @@ const STRAGGLER: [(Step, &str); 18] = [
 
 /// Whether each step is done and leaves these messages on their way.
 fn goes_so(warp: &mut Warp<'_>, steps: &[(Step, &str)]) -> bool {
-    for (next, letters) in steps {
-        if step(warp, *next) != Ok(()) || !has_in_flight(warp, letters) {
-            return false;
-        }
-    }
-    true
+    steps.iter().all(|(next, letters)| step(warp, *next) == Ok(()) && has_in_flight(warp, letters))
 }
 
 /// Whether so many steps are answered, and each is done.
@@ -104,34 +82,14 @@ pub(crate) fn goes_in_one_call(warp: &mut Warp<'_>, steps: &[Step]) -> bool {
             .is_ok_and(|answers| are_done(&answers, rest.len()))
 }
 
-/// Which of three routers a worker has.
-fn owned_by(warp: &Warp<'_>, worker: usize) -> Option<[bool; 3]> {
-    if worker >= warp.workers() {
-        return None;
-    }
-    let shard = warp.shard(worker);
-    Some([shard.owns(0), shard.owns(1), shard.owns(2)])
-}
-
 /// Whether the origin handles its start and undoes it, so many times.
 fn starts_again_and_again(warp: &mut Warp<'_>, times: u32) -> bool {
-    for _ in 0..times {
-        if step(warp, Step::Handle(0)) != Ok(()) || step(warp, Step::Undo(0)) != Ok(()) {
-            return false;
-        }
-    }
-    true
+    (0..times).all(|_| step(warp, Step::Handle(0)) == Ok(()) && step(warp, Step::Undo(0)) == Ok(()))
 }
 
 /// Whether the first messages on their way, so many, are what the origin offers and takes back, again and again.
 fn has_starts_in_flight(warp: &Warp<'_>, count: u64) -> bool {
-    for place in 0..count {
-        let letter = b"mnMN"[(place % 4) as usize];
-        if warp.message_at(place + 1) != message(letter) {
-            return false;
-        }
-    }
-    true
+    (1..=count).all(|place| warp.message_at(place) == message(b"NmnM"[(place % 4) as usize]))
 }
 
 /// Whether nothing but these numbers of messages is loose: on their way, pending and kept.
@@ -139,7 +97,7 @@ pub(crate) fn has_loose(warp: &Warp<'_>, flight: u128, pending: u128, kept: u128
     warp.flight_len() == flight && warp.pending_len() == pending && warp.kept_len() == kept
 }
 
-pub(crate) fn keeps_its_stop(warp: &mut Warp<'_>) -> bool {
+fn keeps_its_stop(warp: &mut Warp<'_>) -> bool {
     warp.set_stop(19) == Err(StopLower)
         && warp.set_stop(1_000_000_001) == Err(StopLower)
         && warp.stop() == 20
@@ -149,7 +107,7 @@ pub(crate) fn keeps_its_stop(warp: &mut Warp<'_>) -> bool {
         && warp.stop() == 30
 }
 
-pub(crate) fn rolls_back(warp: &mut Warp<'_>) -> bool {
+fn rolls_back(warp: &mut Warp<'_>) -> bool {
     goes_so(warp, &STRAGGLER[..11])
         && has_loose(warp, 4, 0, 1)
         && warp.ahead() == 4
@@ -166,7 +124,7 @@ fn steps_of_the_row() -> [Step; 18] {
     steps
 }
 
-pub(crate) fn rolls_back_in_one_call(warp: &mut Warp<'_>) -> bool {
+fn rolls_back_in_one_call(warp: &mut Warp<'_>) -> bool {
     goes_in_one_call(warp, &steps_of_the_row()) && has_loose(warp, 0, 0, 0) && warp.ahead() == 7
 }
 
@@ -181,46 +139,42 @@ const PENDING_TWICE: [(Step, &str); 7] = [
     (Step::Deliver(2), "nNncd"),
 ];
 
-pub(crate) fn is_pending_twice(warp: &mut Warp<'_>) -> bool {
+fn is_pending_twice(warp: &mut Warp<'_>) -> bool {
     goes_so(warp, &PENDING_TWICE) && has_loose(warp, 5, 0, 0)
 }
 
 /// Whether the origin handles its start and undoes it, four hundred times, and all that it offers is on its way.
-pub(crate) fn starts_over(warp: &mut Warp<'_>) -> bool {
+fn starts_over(warp: &mut Warp<'_>) -> bool {
     starts_again_and_again(warp, 400)
         && has_loose(warp, 1_600, 1, 0)
         && has_starts_in_flight(warp, 1_600)
 }
 
-pub(crate) fn is_dealt_out(warp: &Warp<'_>) -> bool {
-    warp.workers() == 2
-        && owned_by(warp, 0) == Some([true, false, true])
-        && owned_by(warp, 1) == Some([false, true, false])
+/// Which of three routers a worker has.
+fn owned_by(shard: &Shard<'_>) -> [bool; 3] {
+    [shard.owns(0), shard.owns(1), shard.owns(2)]
 }
 
-/// What is shown of the machine of DISAGREE, each with a name and how many workers it has. The row in one call goes on
-/// where it was broken off, and begins again.
-const ROWS: [(&str, u32, Row); 7] = [
-    ("the stop never falls", 1, Row::StopNeverFalls),
-    ("a straggler is rolled back", 1, Row::Straggler),
-    ("a straggler in one call", 2, Row::StragglerInOneCall),
-    ("a straggler once more", 2, Row::StragglerInOneCall),
-    ("a router for each worker", 3, Row::Straggler),
-    ("an event is pending twice", 1, Row::PendingTwice),
-    ("routers are dealt out", 2, Row::DealtOut),
-];
+fn is_dealt_out(warp: &mut Warp<'_>) -> bool {
+    warp.workers() == 2
+        && owned_by(warp.shard(0)) == [true, false, true]
+        && owned_by(warp.shard(1)) == [false, true, false]
+}
 
+/// The row in one call goes on where it was broken off, and begins again; with three workers each router has its own.
 #[test]
 fn a_machine_takes_its_steps(rt: HostRuntime) {
-    for (name, workers, row) in &ROWS {
-        assert!(rt;
-            *workers > 0 && holds(rt.alloc(), DISAGREE, *workers, Cancel::Aggressive, *row),
-            "{name}"
-        );
-    }
+    let (alloc, at_once) = (rt.alloc(), Cancel::Aggressive);
+    assert!(rt; holds(alloc, DISAGREE, 1, at_once, keeps_its_stop));
+    assert!(rt; holds(alloc, DISAGREE, 1, at_once, rolls_back));
+    assert!(rt; holds(alloc, DISAGREE, 2, at_once, rolls_back_in_one_call));
+    assert!(rt; holds(alloc, DISAGREE, 2, at_once, rolls_back_in_one_call));
+    assert!(rt; holds(alloc, DISAGREE, 3, at_once, rolls_back));
+    assert!(rt; holds(alloc, DISAGREE, 1, at_once, is_pending_twice));
+    assert!(rt; holds(alloc, DISAGREE, 2, at_once, is_dealt_out));
 }
 
 #[test]
 fn many_messages_are_on_their_way(rt: HostRuntime) {
-    assert!(rt; holds(rt.alloc(), DISAGREE, 2, Cancel::Aggressive, Row::Started));
+    assert!(rt; holds(rt.alloc(), DISAGREE, 2, Cancel::Aggressive, starts_over));
 }

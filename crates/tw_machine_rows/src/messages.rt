@@ -3,23 +3,15 @@
 ghost use Rattle.std.specs.Prelude.{◌≡◌, IfOk, false};
 
 use std::alloc::{AllocError, Global};
-use tw_event::{Body, Event, PathNo};
+use tw_event::{Event, PathNo};
+use tw_rows::events;
 use tw_sim::Signed;
 
 /// The update that one router sends another.
 fn update(time: u64, dst: u32, src: u32, seq: u64, path: u32) -> Signed<Event> {
     Signed {
         plus: true,
-        event: Event {
-            time,
-            dst,
-            src,
-            seq,
-            body: Body::Update {
-                path: PathNo(path),
-                session: 0,
-            },
-        },
+        event: events::update(time, dst, src, seq, PathNo(path)),
     }
 }
 

@@ -25,19 +25,11 @@ fn shard<'a>(alloc: Global, case: &'a Case, worker: u32, cancel: Cancel) -> Opti
     if case.instance().nodes() != 3 {
         return None;
     }
-    match Shard::open_owned(alloc, case, worker, 2, &OWNERS, true, cancel) {
-        Ok(made) => Some(made),
-        Err(_) => None,
-    }
+    Shard::open_owned(alloc, case, worker, 2, &OWNERS, true, cancel).ok()
 }
 
 /// The same, made once more where memory was refused.
-fn shard_at_last<'a>(
-    alloc: Global,
-    case: &'a Case,
-    worker: u32,
-    cancel: Cancel,
-) -> Option<Shard<'a>>
+fn retried<'a>(alloc: Global, case: &'a Case, worker: u32, cancel: Cancel) -> Option<Shard<'a>>
     requires { worker < 2 }
     ensures { IfSome result (λ s. s.terms.case ≡ case.now) }
 {
@@ -63,26 +55,13 @@ fn hand_over<'a>(
     Some(from.hand_over(router, to))
 }
 
-/// How many routers a shard has, what waits for them, what is held for them and what they have sent, and its bound.
-#[derive(Clone, Copy, PartialEq)]
-struct Amounts {
-    routers: usize,
-    pending: usize,
-    kept: usize,
-    held: usize,
-    outgoing: usize,
-    bound: u64,
-}
-
-fn amounts_in(shard: &Shard<'_>) -> Amounts {
-    Amounts {
-        routers: shard.router_count(),
-        pending: shard.pending().len(),
-        kept: shard.kept().len(),
-        held: shard.held_len(),
-        outgoing: shard.outgoing().len(),
-        bound: shard.bound(),
-    }
+/// How many routers a shard has, what is pending and what is kept for them, what is held for them, and what they have
+/// sent; and its bound.
+fn amounts_in(shard: &Shard<'_>) -> ([usize; 5], u64) {
+    let (pending, kept) = (shard.pending().len(), shard.kept().len());
+    let (held, sent) = (shard.held_len(), shard.outgoing().len());
+    let amounts = [shard.router_count(), pending, kept, held, sent];
+    (amounts, shard.bound())
 }
 
 /// Whether a router goes over, once more where memory was refused, after which nothing has changed.
@@ -101,24 +80,12 @@ fn goes_over<'a>(from: &mut Shard<'a>, router: u32, to: &mut Shard<'a>) -> bool
 }
 
 /// Whether the routers are dealt out by the list, and the origin's start is pending where the origin is.
-fn are_dealt_out(from: &Shard<'_>, to: &Shard<'_>) -> bool {
-    has_routers(from, &[0, 1])
-        && has_routers(to, &[2])
+fn are_dealt_out(from: &mut Shard<'_>, to: &mut Shard<'_>) -> bool {
+    from.router_count() == 2
+        && to.router_count() == 1
+        && [from.router_at(0), from.router_at(1), to.router_at(0)] == [0, 1, 2]
         && from.pending().len() == 1
         && to.pending().is_empty()
-}
-
-/// Whether a shard has these routers, in this order, and no more.
-fn has_routers(shard: &Shard<'_>, routers: &[u32]) -> bool {
-    if shard.router_count() != routers.len() {
-        return false;
-    }
-    for k in 0..routers.len() {
-        if shard.router_at(k) != routers[k] {
-            return false;
-        }
-    }
-    true
 }
 
 /// Whether a router that neither has is refused.
@@ -136,11 +103,8 @@ fn is_refused<'a>(from: &mut Shard<'a>, to: &mut Shard<'a>) -> bool
 fn goes_ahead(shard: &mut Shard<'_>) -> bool
     ensures { shard.new.terms.case ≡ shard.old.terms.case }
 {
-    let ([first, _], [_, later], [_, kept]) = (
-        offers_of_origin(),
-        offers_of_2(),
-        early_offers_of_2(),
-    );
+    let ([first, _], [_, later]) = (offers_of_origin(), offers_of_2());
+    let [_, kept] = early_offers_of_2();
     shard.raise_bound(1);
     receive(shard, first).is_ok()
         && handle(shard, 1) == Ok(())
@@ -167,24 +131,8 @@ fn comes_with_what_waits<'a>(from: &mut Shard<'a>, to: &mut Shard<'a>) -> bool
 {
     goes_ahead(from)
         && goes_over(from, 1, to)
-        && amounts_in(from)
-            == Amounts {
-                routers: 1,
-                pending: 1,
-                kept: 0,
-                held: 0,
-                outgoing: 2,
-                bound: 1,
-            }
-        && amounts_in(to)
-            == Amounts {
-                routers: 2,
-                pending: 1,
-                kept: 1,
-                held: 0,
-                outgoing: 0,
-                bound: 1,
-            }
+        && amounts_in(from) == ([1, 1, 0, 0, 2], 1)
+        && amounts_in(to) == ([2, 1, 1, 0, 0], 1)
         && goes_on(to)
 }
 
@@ -198,66 +146,29 @@ fn comes_with_what_is_held<'a>(from: &mut Shard<'a>, to: &mut Shard<'a>) -> bool
         && from.held_time(0).is_none()
         && to.held_time(0) == Some(1)
         && handle(to, 0) == Ok(())
-        && amounts_in(to)
-            == Amounts {
-                routers: 2,
-                pending: 0,
-                kept: 0,
-                held: 0,
-                outgoing: 0,
-                bound: 0,
-            }
+        && amounts_in(to) == ([2, 0, 0, 0, 0], 0)
 }
 
-/// What a test shows of two shards.
-#[derive(Clone, Copy)]
-enum Row {
-    DealtOut,
-    Refused,
-    Waiting,
-    Held,
-}
-
-/// Whether a row holds of the two shards as DISAGREE begins.
-fn holds(alloc: Global, cancel: Cancel, row: Row) -> bool {
-    match case(alloc, DISAGREE) {
-        Ok(case) => holds_in(alloc, &case, cancel, row),
-        Err(_) => false,
-    }
-}
-
-fn holds_in(alloc: Global, case: &Case, cancel: Cancel, row: Row) -> bool {
-    holds_of_both(
-        shard_at_last(alloc, case, 0, cancel),
-        shard_at_last(alloc, case, 1, cancel),
-        |from, to| -> bool
-            requires { to.old.terms.case ≡ from.old.terms.case }
-        { holds_of(from, to, row) },
-    )
-}
-
-fn holds_of<'a>(from: &mut Shard<'a>, to: &mut Shard<'a>, row: Row) -> bool
-    requires { to.old.terms.case ≡ from.old.terms.case }
+/// Whether this holds of the two shards as DISAGREE begins.
+fn holds<F: for<'a> FnOnce(&mut Shard<'a>, &mut Shard<'a>) -> bool>(
+    alloc: Global,
+    cancel: Cancel,
+    of_both: F,
+) -> bool
+    requires { (x y : _) → y.now.terms.case ≡ x.now.terms.case → F.pre of_both x y }
 {
-    match row {
-        Row::DealtOut => are_dealt_out(from, to),
-        Row::Refused => is_refused(from, to),
-        Row::Waiting => comes_with_what_waits(from, to),
-        Row::Held => comes_with_what_is_held(from, to),
-    }
+    let Ok(case) = case(alloc, DISAGREE) else {
+        return false;
+    };
+    let from = retried(alloc, &case, 0, cancel);
+    holds_of_both(from, retried(alloc, &case, 1, cancel), of_both)
 }
-
-/// What is shown of two shards, each with a name and how they cancel.
-const ROWS: [(&str, Cancel, Row); 4] = [
-    ("dealt out by a list", Cancel::Aggressive, Row::DealtOut),
-    ("a router of no shard", Cancel::Aggressive, Row::Refused),
-    ("with what waits for it", Cancel::Aggressive, Row::Waiting),
-    ("with what is held for it", Cancel::Lazy, Row::Held),
-];
 
 #[test]
 fn a_router_goes_from_one_shard_to_another(rt: HostRuntime) {
-    for (name, cancel, row) in &ROWS {
-        assert!(rt; holds(rt.alloc(), *cancel, *row), "{name}");
-    }
+    let alloc = rt.alloc();
+    assert!(rt; holds(alloc, Cancel::Aggressive, are_dealt_out));
+    assert!(rt; holds(alloc, Cancel::Aggressive, is_refused));
+    assert!(rt; holds(alloc, Cancel::Aggressive, comes_with_what_waits));
+    assert!(rt; holds(alloc, Cancel::Lazy, comes_with_what_is_held));
 }

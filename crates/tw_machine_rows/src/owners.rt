@@ -1,29 +1,30 @@
 //! An exchange with a list of owners by calls.
 
-ghost use Rattle.std.specs.Prelude.{◌≡◌, [], ◌∷◌, IfOk};
+ghost use Rattle.std.specs.Prelude.{◌≡◌, [], ◌∷◌, IfSome};
 ghost use Rattle.tw_exchange.specs.Board.{opening_owned, visited};
 
 use crate::exchange::{Row, Way, goes_so, holds};
 use crate::messages::{offers_of_1, offers_of_origin};
-use std::alloc::{AllocError, Global};
+use std::alloc::Global;
 use tw_event::Event;
 use tw_exchange::{Exchange, Signed, VisitFault};
+use tw_rows::made::holds_of_made;
 
 /// An exchange of two workers with these owners, with the bound 0 and the stop 20.
-fn made(alloc: Global, owners: &[u32]) -> Result<Exchange, AllocError>
-    ensures { IfOk result (λ x. x ≡ opening_owned owners.now 2 0 20) }
+fn made(alloc: Global, owners: &[u32]) -> Option<Exchange>
+    ensures { IfSome result (λ x. x ≡ opening_owned owners.now 2 0 20) }
 {
-    let owners = Vec::from_slice(alloc, owners)?;
-    Exchange::with_owners(alloc, 2, 0, 20, owners)
+    let owners = Vec::from_slice(alloc, owners).ok()?;
+    Exchange::with_owners(alloc, 2, 0, 20, owners).ok()
 }
 
 /// The same, once more where memory was refused.
-pub(crate) fn owned(alloc: Global, owners: &[u32]) -> Result<Exchange, AllocError>
-    ensures { IfOk result (λ x. x ≡ opening_owned owners.now 2 0 20) }
+pub(crate) fn owned(alloc: Global, owners: &[u32]) -> Option<Exchange>
+    ensures { IfSome result (λ x. x ≡ opening_owned owners.now 2 0 20) }
 {
     match made(alloc, owners) {
-        Ok(exchange) => Ok(exchange),
-        Err(_) => made(alloc, owners),
+        None => made(alloc, owners),
+        exchange => exchange,
     }
 }
 
@@ -32,46 +33,19 @@ fn takes(exchange: &mut Exchange, router: u32, to: &mut Vec<Signed<Event>>) -> b
     exchange.take_for(router, to).is_ok() || exchange.take_for(router, to).is_ok()
 }
 
-/// Whether the routers, from 0 on, have these workers by a list of owners.
-fn tells_owners(alloc: Global, list: &[u32], owners: &[Option<u32>]) -> bool {
-    match owned(alloc, list) {
-        Ok(exchange) => has_owners(&exchange, owners),
-        Err(_) => false,
-    }
-}
-
-/// Whether the routers, from 0 on, have these workers.
-fn has_owners(exchange: &Exchange, owners: &[Option<u32>]) -> bool {
-    let mut router = 0;
-    for owner in owners {
-        if exchange.owner(router) != *owner {
-            return false;
-        }
-        router = router.wrapping_add(1);
-    }
-    true
+/// Whether routers 0 to 3 have these workers by a list of owners.
+fn tells_owners(alloc: Global, list: &[u32], owners: [Option<u32>; 4]) -> bool {
+    holds_of_made(owned(alloc, list), |exchange| {
+        [0, 1, 2, 3].map(|router| exchange.owner(router)) == owners
+    })
 }
 
 /// Whether what worker 0 deposits for router 2 of worker 1 is taken out, and the other mail is left.
 fn takes_out_mail(exchange: &mut Exchange, to: &mut Vec<Signed<Event>>, alloc: Global) -> bool {
     let ([m, n], [c, d]) = (offers_of_origin(), offers_of_1());
-    let rows = [
-        Row {
-            worker: 0,
-            out: &[m, n],
-            told: None,
-            mail: &[],
-            fault: None,
-            left: (0, None),
-        },
-        Row {
-            worker: 0,
-            out: &[c, d],
-            told: None,
-            mail: &[],
-            fault: None,
-            left: (0, None),
-        },
+    let rows: [Row<'_>; 2] = [
+        (0, &[m, n], None, Ok(&[]), (0, None)),
+        (0, &[c, d], None, Ok(&[]), (0, None)),
     ];
     goes_so(exchange, &rows, Way::ByMessage, alloc)
         && takes(exchange, 2, to)
@@ -81,14 +55,12 @@ fn takes_out_mail(exchange: &mut Exchange, to: &mut Vec<Signed<Event>>, alloc: G
 
 /// Whether mail is taken out where worker 1 has all routers.
 fn takes_out(alloc: Global) -> bool {
-    match owned(alloc, &[1, 1, 1]) {
-        Ok(mut exchange) => takes_out_mail(&mut exchange, &mut Vec::new(alloc), alloc),
-        Err(_) => false,
-    }
+    let (made, to) = (owned(alloc, &[1, 1, 1]), &mut Vec::new(alloc));
+    holds_of_made(made, |exchange| takes_out_mail(exchange, to, alloc))
 }
 
 fn gives_a_router(alloc: Global) -> bool {
-    let Ok(mut exchange) = owned(alloc, &[1, 1, 0]) else {
+    let Some(mut exchange) = owned(alloc, &[1, 1, 0]) else {
         return false;
     };
     match exchange.visit(0, Vec::new(alloc), Some(5)) {
@@ -110,40 +82,22 @@ fn is_given(exchange: &mut Exchange) -> bool
 
 #[test]
 fn owners_are_those_of_the_list(rt: HostRuntime) {
-    let (all, some) = ([Some(1), Some(1), Some(0), None], [Some(0), None]);
-    assert!(rt; tells_owners(rt.alloc(), &[1, 1, 0], &all));
-    assert!(rt; tells_owners(rt.alloc(), &[0, 2], &some));
+    let (all, some) = (
+        [Some(1), Some(1), Some(0), None],
+        [Some(0), None, None, None],
+    );
+    assert!(rt; tells_owners(rt.alloc(), &[1, 1, 0], all));
+    assert!(rt; tells_owners(rt.alloc(), &[0, 2], some));
 }
 
 #[test]
 fn mail_goes_by_owners(rt: HostRuntime) {
-    let [m, n] = offers_of_origin();
-    let rows = [
-        Row {
-            worker: 0,
-            out: &[m, n],
-            told: None,
-            mail: &[n],
-            fault: None,
-            left: (0, Some(5)),
-        },
-        Row {
-            worker: 1,
-            out: &[],
-            told: None,
-            mail: &[m],
-            fault: None,
-            left: (1, Some(1)),
-        },
+    let (alloc, [m, n]) = (rt.alloc(), offers_of_origin());
+    let rows: [Row<'_>; 2] = [
+        (0, &[m, n], None, Ok(&[n]), (0, Some(5))),
+        (1, &[], None, Ok(&[m]), (1, Some(1))),
     ];
-    assert!(rt;
-        holds(
-            owned(rt.alloc(), &[1, 1, 0]),
-            &rows,
-            Way::ByMessage,
-            rt.alloc()
-        )
-    );
+    assert!(rt; holds(owned(alloc, &[1, 1, 0]), &rows, Way::ByMessage, alloc));
 }
 
 #[test]
@@ -158,20 +112,7 @@ fn a_router_is_given_to_another_worker(rt: HostRuntime) {
 
 #[test]
 fn visits_for_a_router_without_a_worker_are_refused(rt: HostRuntime) {
-    let rows = [Row {
-        worker: 0,
-        out: &offers_of_origin(),
-        told: Some(3),
-        mail: &[],
-        fault: Some(VisitFault::NoRouter),
-        left: (0, Some(0)),
-    }];
-    assert!(rt;
-        holds(
-            owned(rt.alloc(), &[1, 1]),
-            &rows,
-            Way::ByMessage,
-            rt.alloc()
-        )
-    );
+    let (alloc, refused) = (rt.alloc(), Err(VisitFault::NoRouter));
+    let rows: [Row<'_>; 1] = [(0, &offers_of_origin(), Some(3), refused, (0, Some(0)))];
+    assert!(rt; holds(owned(alloc, &[1, 1]), &rows, Way::ByMessage, alloc));
 }

@@ -1,21 +1,16 @@
 //! A router that has handled as many events that are not committed as it has room for, by calls.
 
 use crate::machine::step;
-use crate::rows::{Row, holds};
-use std::alloc::Global;
+use crate::rows::holds;
 use tw_core::limits::OPENING_ROOM;
 use tw_rows::cases::many_exchanges;
+use tw_rows::made::again;
 use tw_sim::{Cancel, Step};
 use tw_warp::{OrMemory, Refusal, Warp};
 
 /// Whether the origin handles so many events.
 fn handles(warp: &mut Warp<'_>, count: usize) -> bool {
-    for _ in 0..count {
-        if step(warp, Step::Handle(0)) != Ok(()) {
-            return false;
-        }
-    }
-    true
+    (0..count).all(|_| step(warp, Step::Handle(0)) == Ok(()))
 }
 
 /// Whether the origin has no room.
@@ -30,7 +25,7 @@ fn commits(warp: &mut Warp<'_>) -> bool {
 
 /// Whether the origin has room for as many events as a router begins with, and for one more once one is
 /// committed, and for twice as many once it is given more; and no other router is.
-pub(crate) fn has_its_room(warp: &mut Warp<'_>) -> bool {
+fn has_its_room(warp: &mut Warp<'_>) -> bool {
     handles(warp, OPENING_ROOM)
         && is_full(warp)
         && commits(warp)
@@ -42,19 +37,9 @@ pub(crate) fn has_its_room(warp: &mut Warp<'_>) -> bool {
         && warp.ahead() == 300
 }
 
-/// Whether the row holds for the text of many exchanges.
-fn holds_of_many(alloc: Global) -> bool {
-    let made = match many_exchanges(alloc) {
-        Err(_) => many_exchanges(alloc),
-        made => made,
-    };
-    match made {
-        Ok(text) => holds(alloc, &text, 1, Cancel::Aggressive, Row::Room),
-        Err(_) => false,
-    }
-}
-
 #[test]
 fn a_router_handles_no_more_than_it_has_room_for(rt: HostRuntime) {
-    assert!(rt; holds_of_many(rt.alloc()));
+    let alloc = rt.alloc();
+    let holds = |text: &str| holds(alloc, text, 1, Cancel::Aggressive, has_its_room);
+    assert!(rt; again(|| many_exchanges(alloc)).is_ok_and(|text| holds(&text)));
 }

@@ -1,27 +1,13 @@
-//! What the tests show of machines, and the machines that they begin with.
+//! The machines that the tests begin with.
 
 ghost use Rattle.std.specs.Prelude.{◌<◌};
 
-use crate::{lazy, machine, rooms};
 use std::alloc::{AllocError, Global};
 use tw_instance::Case;
 use tw_rows::cases::case;
-use tw_rows::made::holds_of_made;
+use tw_rows::made::{again, holds_of_made};
 use tw_sim::Cancel;
 use tw_warp::Warp;
-
-/// What a test shows of a machine.
-#[derive(Clone, Copy)]
-pub(crate) enum Row {
-    StopNeverFalls,
-    Straggler,
-    StragglerInOneCall,
-    PendingTwice,
-    Started,
-    DealtOut,
-    Released,
-    Room,
-}
 
 /// The machine of a case, to stop 20, made once more where memory was refused.
 fn machine_of<'a>(
@@ -33,38 +19,24 @@ fn machine_of<'a>(
     requires { 0 < workers }
 {
     match cancel {
-        Cancel::Aggressive => match Warp::new(alloc, case, workers, 20) {
-            Err(_) => Warp::new(alloc, case, workers, 20),
-            made => made,
-        },
-        Cancel::Lazy => match Warp::with_cancel(alloc, case, workers, 20, cancel) {
-            Err(_) => Warp::with_cancel(alloc, case, workers, 20, cancel),
-            made => made,
-        },
+        Cancel::Aggressive => again(|| Warp::new(alloc, case, workers, 20)),
+        Cancel::Lazy => again(|| Warp::with_cancel(alloc, case, workers, 20, cancel)),
     }
 }
 
-/// Whether a row holds of the machine of a case, with so many workers.
-pub(crate) fn holds(alloc: Global, text: &str, workers: u32, cancel: Cancel, row: Row) -> bool
-    requires { 0 < workers }
+/// Whether this holds of the machine of a case, with so many workers.
+pub(crate) fn holds<F: FnOnce(&mut Warp<'_>) -> bool>(
+    alloc: Global,
+    text: &str,
+    workers: u32,
+    cancel: Cancel,
+    of_it: F,
+) -> bool
+    requires some { 0 < workers }
+    requires each { (x : _) → F.pre of_it x }
 {
     let Ok(case) = case(alloc, text) else {
         return false;
     };
-    holds_of_made(machine_of(alloc, &case, workers, cancel).ok(), |warp| {
-        holds_of(warp, row)
-    })
-}
-
-fn holds_of(warp: &mut Warp<'_>, row: Row) -> bool {
-    match row {
-        Row::StopNeverFalls => machine::keeps_its_stop(warp),
-        Row::Straggler => machine::rolls_back(warp),
-        Row::StragglerInOneCall => machine::rolls_back_in_one_call(warp),
-        Row::PendingTwice => machine::is_pending_twice(warp),
-        Row::Started => machine::starts_over(warp),
-        Row::DealtOut => machine::is_dealt_out(warp),
-        Row::Released => lazy::releases(warp),
-        Row::Room => rooms::has_its_room(warp),
-    }
+    holds_of_made(machine_of(alloc, &case, workers, cancel).ok(), of_it)
 }

@@ -108,11 +108,8 @@ fn the_offer_is_committed(shard: &mut Shard<'_>) -> bool {
 /// What lies before the bound comes back.
 fn a_late_message_is_returned(shard: &mut Shard<'_>) -> bool {
     let [_, message] = offers_of_1();
-    receive(shard, message)
-        == Err(Returned {
-            message,
-            why: OrMemory::Fault(Rejection::Late { bound: 3 }),
-        })
+    let why = OrMemory::Fault(Rejection::Late { bound: 3 });
+    receive(shard, message) == Err(Returned { message, why })
 }
 
 /// The offer of the origin is handled as the least of all events, but not before its time.
@@ -134,48 +131,15 @@ fn the_least_comes_late(shard: &mut Shard<'_>) -> bool {
         && shard.outgoing() == &[antimessage(to_0), antimessage(to_1), then_0, then_1][..]
 }
 
-/// What a test shows of a shard.
-#[derive(Clone, Copy)]
-enum Row {
-    RolledBack,
-    ToldHandled,
-    ToldCommitted,
-    TakenBackAndSentAgain,
-    SentTwice,
-    AntimessageFirst,
-    Lent,
-    LeastFirst,
-}
-
-/// Whether a row holds of what one worker of three has as DISAGREE begins.
-fn holds(alloc: Global, worker: u32, row: Row) -> bool
-    requires { worker < 3 }
+/// Whether this holds of what one worker of three has as DISAGREE begins.
+fn holds<F: FnOnce(&mut Shard<'_>) -> bool>(alloc: Global, worker: u32, of_it: F) -> bool
+    requires within { worker < 3 }
+    requires each { (x : _) → F.pre of_it x }
 {
-    match case(alloc, DISAGREE) {
-        Ok(case) => holds_in(alloc, &case, worker, row),
-        Err(_) => false,
-    }
-}
-
-fn holds_in(alloc: Global, case: &Case, worker: u32, row: Row) -> bool
-    requires { worker < 3 }
-{
-    holds_of_made(shard(alloc, case, worker).ok(), |shard| {
-        holds_of(alloc, shard, row)
-    })
-}
-
-fn holds_of(alloc: Global, shard: &mut Shard<'_>, row: Row) -> bool {
-    match row {
-        Row::RolledBack => is_rolled_back_and_goes_on(shard),
-        Row::ToldHandled => tells_what_it_has_handled(shard),
-        Row::ToldCommitted => tells_what_it_has_committed(shard),
-        Row::TakenBackAndSentAgain => takes_back_and_sends_again(shard),
-        Row::SentTwice => handles_once(shard),
-        Row::AntimessageFirst => keeps_an_antimessage(shard),
-        Row::Lent => sends_behind_what_is_lent(alloc, shard),
-        Row::LeastFirst => handles_the_least_first(shard),
-    }
+    let Ok(case) = case(alloc, DISAGREE) else {
+        return false;
+    };
+    holds_of_made(shard(alloc, &case, worker).ok(), of_it)
 }
 
 fn is_rolled_back_and_goes_on(shard: &mut Shard<'_>) -> bool {
@@ -264,33 +228,26 @@ fn handles_the_least_first(shard: &mut Shard<'_>) -> bool {
 }
 
 fn sends_behind_what_is_lent(alloc: Global, shard: &mut Shard<'_>) -> bool {
-    let Ok(mut messages) = list(alloc, &offers_of_1()) else {
-        return false;
-    };
     let ([first, second], [third, fourth]) = (offers_of_1(), offers_of_origin());
-    shard.swap_outgoing(&mut messages);
-    if !messages.is_empty() || handle(shard, 0) != Ok(()) {
-        return false;
-    }
-    shard.swap_outgoing(&mut messages);
-    messages.as_slice() == &[first, second, third, fourth][..] && shard.outgoing().is_empty()
+    holds_of_made(list(alloc, &[first, second]).ok(), |messages| {
+        shard.swap_outgoing(messages);
+        let handles = messages.is_empty() && handle(shard, 0) == Ok(());
+        shard.swap_outgoing(messages);
+        let sent = messages.as_slice() == &[first, second, third, fourth][..];
+        handles && sent && shard.outgoing().is_empty()
+    })
 }
-
-/// What is shown of a shard, each with a name and the worker that has it.
-const ROWS: [(&str, u32, Row); 8] = [
-    ("rolled back, and goes on", 2, Row::RolledBack),
-    ("what it has handled", 2, Row::ToldHandled),
-    ("what it has committed", 2, Row::ToldCommitted),
-    ("taken back and sent again", 0, Row::TakenBackAndSentAgain),
-    ("an event sent twice", 1, Row::SentTwice),
-    ("an antimessage that is first", 1, Row::AntimessageFirst),
-    ("behind what is lent", 0, Row::Lent),
-    ("the least of all events first", 2, Row::LeastFirst),
-];
 
 #[test]
 fn a_shard_goes_on_and_back(rt: HostRuntime) {
-    for (name, worker, row) in &ROWS {
-        assert!(rt; *worker < 3 && holds(rt.alloc(), *worker, *row), "{name}");
-    }
+    let alloc = rt.alloc();
+    let sends_behind = |shard: &mut Shard<'_>| sends_behind_what_is_lent(alloc, shard);
+    assert!(rt; holds(alloc, 2, is_rolled_back_and_goes_on));
+    assert!(rt; holds(alloc, 2, tells_what_it_has_handled));
+    assert!(rt; holds(alloc, 2, tells_what_it_has_committed));
+    assert!(rt; holds(alloc, 0, takes_back_and_sends_again));
+    assert!(rt; holds(alloc, 1, handles_once));
+    assert!(rt; holds(alloc, 1, keeps_an_antimessage));
+    assert!(rt; holds(alloc, 0, sends_behind));
+    assert!(rt; holds(alloc, 2, handles_the_least_first));
 }

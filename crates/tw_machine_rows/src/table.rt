@@ -158,13 +158,7 @@ fn meet<R: Wait>(
 fn deal(table: &Table, parcels: &mut Parcels, messages: &[Signed<Event>]) -> bool
     ensures { OnTrue result (AreDealt (owners_on table.now) (workers_at table.now) messages.now parcels.new) }
 {
-    if let Ok(()) = table.deal(parcels, messages) {
-        return true;
-    }
-    match table.deal(parcels, messages) {
-        Ok(()) => true,
-        Err(_) => false,
-    }
+    table.deal(parcels, messages).is_ok() || table.deal(parcels, messages).is_ok()
 }
 
 /// A worker that has taken the exchange visits it with what is dealt, once more where memory was refused.
@@ -187,10 +181,7 @@ fn visit_dealt(
     if let Ok(told) = held.visit_dealt(parcels, report, mail) {
         return Some(told);
     }
-    match held.visit_dealt(parcels, report, mail) {
-        Ok(told) => Some(told),
-        Err(_) => None,
-    }
+    held.visit_dealt(parcels, report, mail).ok()
 }
 
 /// As [`meet`], where what its routers have sent is dealt before the exchange is taken.
@@ -244,11 +235,7 @@ fn meet_first<R: Wait>(
         return None;
     }
     let seat = meet_dealt(rt, table, seat, shard, hand)?;
-    if is_told(&seat, hand, &[for_2], 0) {
-        Some(seat)
-    } else {
-        None
-    }
+    is_told(&seat, hand, &[for_2], 0).then_some(seat)
 }
 
 /// The second worker has sent nothing and meets: it is told of bound 1, and has what router 1 is offered.
@@ -267,11 +254,7 @@ fn meet_second<R: Wait>(
         return None;
     }
     let seat = meet(rt, table, seat, shard, hand)?;
-    if is_told(&seat, hand, &[for_1], 1) {
-        Some(seat)
-    } else {
-        None
-    }
+    is_told(&seat, hand, &[for_1], 1).then_some(seat)
 }
 
 /// The exchange of a table that does not close with the first seat alone, but with both. The list is empty.
@@ -344,16 +327,14 @@ fn leave_no_mail<R: Wait>(rt: &R, alloc: Global, case: &Case, shards: &mut [Shar
 
 /// Whether two workers do so as a case begins.
 fn leave_no_mail_of<R: Wait>(rt: &R, alloc: Global, case: &Case) -> bool {
-    match shards_of(alloc, case) {
-        Ok(mut shards) => leave_no_mail(rt, alloc, case, &mut shards),
-        Err(_) => false,
-    }
+    let Ok(mut shards) = shards_of(alloc, case) else {
+        return false;
+    };
+    leave_no_mail(rt, alloc, case, &mut shards)
 }
 
 #[test]
 fn two_workers_hand_each_other_mail(rt: HostRuntime) {
-    let Ok(case) = case(rt.alloc(), DISAGREE) else {
-        panic!(rt; "refused")
-    };
-    assert!(rt; leave_no_mail_of(&rt, rt.alloc(), &case));
+    let alloc = rt.alloc();
+    assert!(rt; case(alloc, DISAGREE).is_ok_and(|case| leave_no_mail_of(&rt, alloc, &case)));
 }

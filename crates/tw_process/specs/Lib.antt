@@ -1,4 +1,5 @@
 pub mod Parts
+pub mod Routing
 pub mod Behaviour
 pub mod First
 pub mod Order

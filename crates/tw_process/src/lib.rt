@@ -4,8 +4,9 @@
 //! `Behaviour`, which says in contracts alone what each process does. Proved here, once for every model: where it
 //! keeps the few laws that `keeps_laws` asks for, its simulation keeps all that `tw_sim` and `tw_core` rest on
 //! (`laws`), so the sequential run to each time ends, is the only one, and is what rolling back leads to.
-//! `Event` is an event with a body of the model's own, whose order needs no proof. `proofs/Plain.antt` and
-//! `proofs/First.antt` help to prove a model's laws: what a process sends is stamped with its numbers.
+//! `Event` is an event with a body of the model's own, whose order needs no proof; routing's events are `Timed` too.
+//! `proofs/Plain.antt` and `proofs/First.antt` help to prove a model's laws: what a process sends is stamped with its
+//! numbers.
 #![tactic(auto)]
 
 mod body;
@@ -14,6 +15,7 @@ pub mod laws;
 pub mod limits;
 mod model;
 mod refused;
+mod routing;
 mod timed;
 
 pub use body::Body;

@@ -12,14 +12,14 @@ use Rattle.tw_parallel.specs.Settled.{IsSettled}
 use Rattle.tw_parallel.specs.Sim.{GoesOn, HasSameOwners, Sim, cancels_of}
 use Rattle.tw_run.proofs.Dealt.{dealt_out, goes_on_same, still_dealt}
 use Rattle.tw_run.specs.Dealing.{AreDealtAs, owners_after}
-use Rattle.tw_run.specs.Ran.{HasCome, HasComeTo, HasStoppedBy, HaveComeAsChosen, IsBy, IsLeftBy, IsRunBy, IsRunByAny, MayStop, MayStopAlone, MayStopBy}
+use Rattle.tw_run.specs.Ran.{HasCome, HasComeTo, HasStoppedBy, HaveComeAsChosen, IsBy, IsLeftBy, IsRunBy, IsRunByAny, MayStop}
 use Rattle.tw_run.specs.declared.dealing.Dealing.{Dealing as ADealing}
 use Rattle.tw_run.specs.declared.ran.By.{By}
 use Rattle.tw_run.specs.declared.ran.By.TheVariants as by
 use Rattle.tw_pace.specs.declared.pace.TheConstants.{MOST_WORKERS_CHOSEN}
 use Rattle.tw_run.specs.Stopped.{HasStopped, TellsEnd, stopped_alone}
 use Rattle.tw_run.specs.declared.cause.Stopped.{Stopped}
-use Rattle.tw_run.specs.declared.cause.Stopped.TheVariants.{Memory, CounterFull, NoThread, FullAhead}
+use Rattle.tw_run.specs.declared.cause.Stopped.TheVariants.{Memory, NoThread, Full}
 use Rattle.tw_run.specs.declared.run.Asked.{Asked as AnAsked}
 use Rattle.tw_seq.specs.Run.{GetsStuck}
 use Rattle.tw_threads.specs.Left.{IsFullAhead}
@@ -27,14 +27,13 @@ use Rattle.tw_threads.specs.declared.end_cause.EndCause.{EndCause}
 use Rattle.tw_threads.specs.declared.end_cause.EndCause.TheVariants as ended
 
 -- what stops a later run stops the one before it
-pub stopped_before : (s t : Sim) (why : Stopped) → GoesOn s t → HasStopped t why → HasStopped s why
+pub stopped_before : (s t : Sim) (why : Stopped Sim) → GoesOn s t → HasStopped t why → HasStopped s why
 stopped_before s t Memory on h = tt
-stopped_before s t CounterFull on h = h
 stopped_before s t NoThread on h = tt
-stopped_before s t (FullAhead u) on h = (goes_on_both s t u on h.0, h.1)
+stopped_before s t (Full u) on h = (goes_on_both s t u on h.0, h.1)
 
 -- workers that ended have stopped so
-pub ended_so : (s t : Sim) (why : EndCause) (told : Stopped) → GoesOn s t → (why ≡ ended.CounterFull → IsFullAhead t.board.stop t.shares) → TellsEnd why t told → HasStopped s told
+pub ended_so : (s t : Sim) (why : EndCause) (told : Stopped Sim) → GoesOn s t → (why ≡ ended.CounterFull → IsFullAhead t.board.stop t.shares) → TellsEnd why t told → HasStopped s told
 ended_so s t ended.Memory told on full tells = subst (HasStopped s) (sym tells) tt
 ended_so s t ended.CounterFull told on full tells = subst (HasStopped s) (sym tells) (on, full refl)
 ended_so s t ended.NoThread told on full tells = subst (HasStopped s) (sym tells) tt
@@ -45,14 +44,13 @@ pub by_later : (case : Case) (asked : AnAsked) (n : ℕ) (s t : Sim) → IsBy ca
 by_later case asked n s t by on = record { of_case = on.case ∙ by.of_case; workers = on.workers ∙ by.workers; cancels = on.cancels ∙ by.cancels }
 
 -- so is what stops them
-pub stopped_by : (case : Case) (asked : AnAsked) (n : ℕ) (s : Sim) (why : Stopped) → IsBy case asked n s → HasStopped s why → HasStoppedBy case asked n why
+pub stopped_by : (case : Case) (asked : AnAsked) (n : ℕ) (s : Sim) (why : Stopped Sim) → IsBy case asked n s → HasStopped s why → HasStoppedBy case asked n why
 stopped_by case asked n s Memory by h = tt
-stopped_by case asked n s CounterFull by h = h
 stopped_by case asked n s NoThread by h = tt
-stopped_by case asked n s (FullAhead t) by h = record { by = by_later case asked n s t by h.0; full = h.1 }
+stopped_by case asked n s (Full t) by h = record { by = by_later case asked n s t by h.0; full = h.1 }
 
 -- their routers stay dealt out
-pub dealt_later : (d : ADealing) (k : ℕ) (s : Sim) (result : Result Sim Stopped) → AreDealtAs d k s → IfOk result (λ t. GoesOn s t) → IfOk result (λ t. HasSameOwners s t) → IfOk result (λ t. AreDealtAs d k t)
+pub dealt_later : (d : ADealing) (k : ℕ) (s : Sim) (result : Result Sim (Stopped Sim)) → AreDealtAs d k s → IfOk result (λ t. GoesOn s t) → IfOk result (λ t. HasSameOwners s t) → IfOk result (λ t. AreDealtAs d k t)
 dealt_later d k s (Ok t) dealt on same = still_dealt d k s t dealt on same
 dealt_later d k s (Err why) dealt on same = tt
 
@@ -69,18 +67,9 @@ any_left case asked s (by.Workers t) left come = subst (HaveComeAsChosen case as
 any_left case asked s (by.OneThreadAfter t) left come = absurd left
 
 -- what stops one thread stops a run
-pub alone_stops : (case : Case) (asked : AnAsked) (why : Stopped) → MayStopAlone case asked.stop why → MayStop case asked why
-alone_stops case asked Memory may = tt
-alone_stops case asked CounterFull may = may
-alone_stops case asked NoThread may = absurd may
-alone_stops case asked (FullAhead s) may = absurd may
-
--- and what stops the workers that were told
-pub told_stops : (case : Case) (asked : AnAsked) (n : ℕ) (why : Stopped) → 1 < n → asked.workers ≡ Some n → MayStopBy case asked.stop why → MayStop case asked why
-told_stops case asked n Memory many told may = tt
-told_stops case asked n CounterFull many told may = may
-told_stops case asked n NoThread many told may = (n, many, told)
-told_stops case asked n (FullAhead s) many told may = absurd may
+pub alone_stops : (case : Case) (asked : AnAsked) (fault : OrMemory AFullCounter) → (fault ≡ or_memory.Fault counter_full → GetsStuck case asked.stop) → MayStop case asked (stopped_alone fault)
+alone_stops case asked (or_memory.Fault full) stuck = stuck refl
+alone_stops case asked or_memory.Memory stuck = tt
 
 -- ---- workers that are chosen
 
@@ -122,8 +111,3 @@ come_begun case asked s n time list some few is many cancels settled stop dealt 
   stop = stop;
   dealt = dealt_out asked.dealing 0 s s list (goes_on_same s) (dealt ∙ (λ i. owners_after asked.dealing (sym many i) (sym is i).net.nodes 0)) owners;
 }
-
--- what stops one thread is told as it is
-pub told_alone : (case : Case) (stop : ℕ) (fault : OrMemory AFullCounter) → (fault ≡ or_memory.Fault counter_full → GetsStuck case stop) → MayStopAlone case stop (stopped_alone fault)
-told_alone case stop (or_memory.Fault full) stuck = stuck refl
-told_alone case stop or_memory.Memory stuck = tt

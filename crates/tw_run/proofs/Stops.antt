@@ -6,26 +6,23 @@ use Rattle.tw_commands.specs.declared.cause.Cause.{Cause}
 use Rattle.tw_commands.specs.declared.cause.Status.{Status}
 use Rattle.tw_commands.specs.ForCase.{StuckFor, for_case}
 use Rattle.tw_commands.specs.Output.{Leaves, Output}
+use Rattle.tw_handlers.specs.declared.fault.CounterFull.{CounterFull as AFullCounter}
 use Rattle.tw_model.specs.Case.{Case}
 use Rattle.tw_run.specs.Ran.{MayStop}
 use Rattle.tw_run.specs.Stopped.{cause_of}
 use Rattle.tw_run.specs.Threaded.{LacksThread, LeavesThreaded, LeavesThreadedFor}
 use Rattle.tw_run.specs.declared.cause.Stopped.{Stopped}
-use Rattle.tw_run.specs.declared.cause.Stopped.TheVariants.{Memory, CounterFull, NoThread, FullAhead}
+use Rattle.tw_run.specs.declared.cause.Stopped.TheVariants.{Memory, NoThread, Full}
 use Rattle.tw_run.specs.declared.run.Asked.{Asked as AnAsked}
 use Rattle.tw_seq.specs.Run.{GetsStuck}
 use Rattle.tw_text.specs.Reading.{case_of}
 use Rattle.tw_text.specs.declared.text_fault.TextFault.{TextFault}
 
-pub leaves_told : (why : Stopped) (told : Cause) (case : Case) (asked : AnAsked) (output : Output) (old : Option (List ℕ)) (failed : Bool) → failed ≡ false
-    → told ≡ cause_of why → MayStop case asked why → LeavesThreaded (Err told) output (GetsStuck case asked.stop) old old failed
-leaves_told why told case asked output old failed still is may = subst (λ t. LeavesThreaded (Err t) output (GetsStuck case asked.stop) old old failed) (sym is) (go why may)
-  where
-    go : (why : Stopped) → MayStop case asked why → LeavesThreaded (Err (cause_of why)) output (GetsStuck case asked.stop) old old failed
-    go Memory may = inl (record { nothing = Keeps-refl old; still = still })
-    go CounterFull may = inl (may, record { nothing = Keeps-refl old; still = still })
-    go NoThread may = inr (record { no_thread = refl; sink = record { nothing = Keeps-refl old; still = still } })
-    go (FullAhead s) may = absurd may
+pub leaves_told : (why : Stopped AFullCounter) (case : Case) (asked : AnAsked) (output : Output) (old : Option (List ℕ)) (failed : Bool) → failed ≡ false
+    → MayStop case asked why → LeavesThreaded (Err (cause_of why)) output (GetsStuck case asked.stop) old old failed
+leaves_told Memory case asked output old failed still may = inl (record { nothing = Keeps-refl old; still = still })
+leaves_told NoThread case asked output old failed still may = inr (record { no_thread = refl; sink = record { nothing = Keeps-refl old; still = still } })
+leaves_told (Full full) case asked output old failed still may = inl (may, record { nothing = Keeps-refl old; still = still })
 
 -- of a text that is a case
 pub leaves_for : (text : List ℕ) (case : Case) → case_of text ≡ Ok case → (result : Result Status Cause) (report : Case → Output) (stop : ℕ) (old new : Option (List ℕ)) (failed : Bool)

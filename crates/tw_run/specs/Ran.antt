@@ -2,6 +2,7 @@
 use Rattle.std.specs.Prelude.{ℕ, ◌≡◌, ◌<◌, ◌≤◌, true, Some, replicate}
 use Rattle.tw_commands.specs.Seq.{found_to, shown}
 use Rattle.tw_exchange.specs.Board.{workers}
+use Rattle.tw_handlers.specs.declared.fault.CounterFull.{CounterFull as AFullCounter}
 use Rattle.tw_model.specs.Case.{Case}
 use Rattle.tw_model.specs.Summary.{summary_of}
 use Rattle.tw_parallel.specs.Settled.{IsSettled}
@@ -12,7 +13,7 @@ use Rattle.tw_run.specs.declared.chosen.Come.{Come}
 use Rattle.tw_run.specs.declared.chosen.Come.TheVariants as come
 use Rattle.tw_run.specs.declared.chosen.Tried.{Tried}
 use Rattle.tw_run.specs.declared.chosen.Tried.TheVariants as tried
-use Rattle.tw_run.specs.declared.cause.Stopped.TheVariants.{Memory, CounterFull, NoThread, FullAhead}
+use Rattle.tw_run.specs.declared.cause.Stopped.TheVariants.{Memory, NoThread, Full}
 use Rattle.tw_run.specs.declared.ran.By.{By}
 use Rattle.tw_run.specs.declared.ran.By.TheVariants.{OneThread, Workers, OneThreadAfter}
 use Rattle.tw_run.specs.declared.ran.Ran.{Ran as ARun}
@@ -90,38 +91,22 @@ IsRunByAny case asked OneThread = Unit {0}
 IsRunByAny case asked (Workers s) = HaveComeAsChosen case asked s.value
 IsRunByAny case asked (OneThreadAfter s) = ⊥
 
--- ---- why a run did not come to its stop
-
--- n workers who ran the case stopped for this
-abbrev pub HasStoppedBy : Case → AnAsked → ℕ → Stopped → Type 0
-HasStoppedBy case asked n Memory = Unit {0}
-HasStoppedBy case asked n CounterFull = ⊥
-HasStoppedBy case asked n NoThread = Unit {0}
-HasStoppedBy case asked n (FullAhead s) = HasMetFull case asked n s
-
--- one thread stops for want of memory, or where the sequential run gets stuck
-abbrev pub MayStopAlone : Case → ℕ → Stopped → Type 0
-MayStopAlone case stop Memory = Unit {0}
-MayStopAlone case stop CounterFull = GetsStuck case stop
-MayStopAlone case stop NoThread = ⊥
-MayStopAlone case stop (FullAhead s) = ⊥
-
 -- where workers had come so far, one thread ran
 abbrev pub HasRunAnew : Sim → By → Type 0
 HasRunAnew s OneThread = ⊥
 HasRunAnew s (Workers t) = ⊥
 HasRunAnew s (OneThreadAfter t) = t.value ≡ s
 
--- workers, or one thread after them, stop for this: for no full counter but the sequential run's
-abbrev pub MayStopBy : Case → ℕ → Stopped → Type 0
-MayStopBy case stop Memory = Unit {0}
-MayStopBy case stop CounterFull = GetsStuck case stop
-MayStopBy case stop NoThread = Unit {0}
-MayStopBy case stop (FullAhead s) = ⊥
+-- ---- why a run did not come to its stop
 
--- a run stops for want of memory, or where the sequential run gets stuck, or for want of a thread where it was told workers
-abbrev pub MayStop : Case → AnAsked → Stopped → Type 0
+-- n workers who ran the case stopped for this
+abbrev pub HasStoppedBy : Case → AnAsked → ℕ → Stopped Sim → Type 0
+HasStoppedBy case asked n Memory = Unit {0}
+HasStoppedBy case asked n NoThread = Unit {0}
+HasStoppedBy case asked n (Full s) = HasMetFull case asked n s
+
+-- a run stops for want of memory, or for want of a thread where it was told workers, or where the sequential run gets stuck
+abbrev pub MayStop : Case → AnAsked → Stopped AFullCounter → Type 0
 MayStop case asked Memory = Unit {0}
-MayStop case asked CounterFull = GetsStuck case asked.stop
 MayStop case asked NoThread = (n : ℕ) × (1 < n) × (asked.workers ≡ Some n)
-MayStop case asked (FullAhead s) = ⊥
+MayStop case asked (Full full) = GetsStuck case asked.stop

@@ -12,18 +12,16 @@ use tw_seq::CounterFull;
 
 /// Why a run did not come to its stop.
 #[derive(Drop)]
-pub(crate) enum Stopped<'a> {
+pub(crate) enum Stopped<F: Drop> {
     /// Memory was refused.
     Memory,
-    /// A counter of the one-thread run would pass its limit.
-    CounterFull,
     /// A thread was refused.
     NoThread,
-    /// A counter would pass its limit where workers run ahead, who have come so far.
-    FullAhead(Sim<'a>),
+    /// A counter would pass its limit: of the one-thread run, or where workers run ahead, who have come so far.
+    Full(F),
 }
 
-impl From<AllocError> for Stopped<'_> {
+impl<F: Drop> From<AllocError> for Stopped<F> {
     ghost from_gives = { λ _ why. why ≡ stopped.Memory };
 
     fn from(_: AllocError) -> Self {
@@ -31,39 +29,40 @@ impl From<AllocError> for Stopped<'_> {
     }
 }
 
-impl From<OrMemory<CounterFull>> for Stopped<'_> {
+impl From<OrMemory<CounterFull>> for Stopped<CounterFull> {
     ghost from_gives = { λ fault why. why ≡ stopped_alone fault };
 
     fn from(fault: OrMemory<CounterFull>) -> Self {
         match fault {
-            OrMemory::Fault(CounterFull) => Stopped::CounterFull,
+            OrMemory::Fault(full) => Stopped::Full(full),
             OrMemory::Memory => Stopped::Memory,
         }
     }
 }
 
-impl<'a> Stopped<'a> {
+impl From<Stopped<CounterFull>> for Cause {
+    ghost from_gives = { λ why cause. cause ≡ cause_of why };
+
+    fn from(why: Stopped<CounterFull>) -> Cause {
+        match why {
+            Stopped::Memory => Cause::Memory,
+            Stopped::NoThread => Cause::NoThread,
+            Stopped::Full(_) => Cause::CounterFull,
+        }
+    }
+}
+
+impl<'a> Stopped<Sim<'a>> {
     /// Why workers ended whose stop was allowed.
-    pub(crate) fn of(ended: Ended<'a>) -> Stopped<'a>
+    pub(crate) fn of(ended: Ended<'a>) -> Stopped<Sim<'a>>
         requires { ended.cause ≡ end_cause.StopLower → ⊥ }
         ensures { TellsEnd ended.entry.cause ended.entry.sim result }
     {
         match ended.cause {
             EndCause::Memory => Stopped::Memory,
-            EndCause::CounterFull => Stopped::FullAhead(ended.sim),
+            EndCause::CounterFull => Stopped::Full(ended.sim),
             EndCause::NoThread => Stopped::NoThread,
             EndCause::StopLower => unreachable!(),
-        }
-    }
-
-    /// Why the program stops.
-    pub(crate) fn cause(&self) -> Cause
-        ensures { result ≡ cause_of self.now }
-    {
-        match self {
-            Stopped::Memory => Cause::Memory,
-            Stopped::CounterFull | Stopped::FullAhead(_) => Cause::CounterFull,
-            Stopped::NoThread => Cause::NoThread,
         }
     }
 }

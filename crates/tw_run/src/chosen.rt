@@ -5,10 +5,9 @@ ghost use Rattle.tw_handlers.specs.Calls.{counter_full};
 ghost use Rattle.tw_model.specs.declared.limits.TheConstants.{LATEST};
 ghost use Rattle.tw_model.specs.declared.memory.OrMemory.TheVariants as or_memory;
 ghost use Rattle.tw_run.specs.Asked.{IsReady};
-ghost use Rattle.tw_run.specs.Ran.{HasComeTo, IsComeTo, IsTried, MayStopAlone};
+ghost use Rattle.tw_run.specs.Ran.{HasComeTo, IsComeTo, IsTried};
 ghost use Rattle.tw_seq.specs.Run.{GetsStuck, complete_run};
 
-use crate::cause::Stopped;
 use crate::dealing::owners;
 use crate::run::Asked;
 use crate::segments::{handled_by, run_to};
@@ -73,11 +72,11 @@ pub(crate) fn run_to_stop<'a, X: Threads + Wait + Sync + Clock, O: Progress + St
     case: &'a Case,
     asked: Asked,
     observer: &O,
-) -> Result<Come<'a>, Stopped<'a>>
+) -> Result<Come<'a>, OrMemory<CounterFull>>
     requires ready { IsReady asked }
     requires log { asked.log ≡ false }
     ensures come { IfOk result (λ come. IsComeTo case.now asked come) }
-    ensures stopped { IfErr result (λ why. MayStopAlone case.now asked.stop why) }
+    ensures full { IsErrOf result (or_memory.Fault counter_full) → GetsStuck case.now asked.stop }
 {
     let mut run = TracedRun::new(alloc, case, false)?;
     let mut alone = Alone::new();

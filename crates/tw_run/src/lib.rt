@@ -12,7 +12,6 @@
 mod cause;
 mod chosen;
 mod dealing;
-mod outcome;
 mod ran;
 mod run;
 mod segments;

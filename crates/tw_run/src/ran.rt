@@ -5,15 +5,13 @@ ghost use Rattle.tw_model.specs.Summary.{summary_of};
 ghost use Rattle.tw_parallel.specs.Settled.{IsSettled};
 ghost use Rattle.tw_parallel.specs.Sim.{RetainsEvents};
 ghost use Rattle.tw_run.specs.Ran.{IsLeftBy};
-ghost use Rattle.tw_run.specs.declared.ran.By.TheVariants.{OneThread};
 ghost use Rattle.tw_seq.specs.Outcome.{outcome_of as outcome_of_run};
 ghost use Rattle.tw_seq.specs.Run.{complete_run};
 
-use crate::outcome::outcome_of;
 use std::alloc::AllocError;
 use std::snapshot::Snapshot;
 use tw_model::Outcome;
-use tw_parallel::Sim;
+use tw_parallel::{NotSettled, OrMemory, Sim};
 use tw_shape::Finding;
 
 /// What a run leaves at its stop, and who ran it.
@@ -39,7 +37,7 @@ pub(crate) enum By<'a> {
 }
 
 /// What workers leave who have come to their stop, and what was found on the way; the events only where `log` asks for
-/// them, which they keep then.
+/// them, which they keep then. It is what the one-thread run leaves.
 pub(crate) fn left_by<'a>(
     sim: Sim<'a>,
     found: Option<Finding>,
@@ -51,23 +49,15 @@ pub(crate) fn left_by<'a>(
     ensures found { IfOk result (λ ran. ran.found ≡ found) }
     ensures by { IfOk result (λ ran. IsLeftBy sim.entry ran.by) }
 {
-    let outcome = outcome_of(&sim, log)?;
-    Ok(Ran {
-        outcome,
-        found,
-        by: By::Workers(Snapshot::of(&sim)),
-    })
-}
-
-/// What one thread leaves that has come to its stop, and what was found on the way.
-pub(crate) fn left_alone<'a>(outcome: Outcome, found: Option<Finding>) -> Ran<'a>
-    ensures outcome { result.outcome ≡ outcome }
-    ensures found { result.found ≡ found }
-    ensures by { result.by ≡ OneThread }
-{
-    Ran {
-        outcome,
-        found,
-        by: By::OneThread,
+    // What a run keeps is told by a read of it.
+    let _ = sim.stop();
+    match sim.outcome(log) {
+        Ok(outcome) => Ok(Ran {
+            outcome,
+            found,
+            by: By::Workers(Snapshot::of(&sim)),
+        }),
+        Err(OrMemory::Memory) => Err(AllocError),
+        Err(OrMemory::Fault(NotSettled)) => unreachable!(),
     }
 }

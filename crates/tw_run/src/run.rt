@@ -1,9 +1,11 @@
 //! The command `run`: from the text of a case to its report.
-ghost use Rattle.std.specs.Prelude.{◌≡◌, ◌<◌, ℕ, false, IfErr, IfOk, None, OnOk, Some};
+ghost use Rattle.std.specs.Prelude.{◌≡◌, ◌<◌, ℕ, false, IfErr, IfOk, IsErrOf, None, OnOk, Some};
 ghost use Rattle.tw_commands.specs.Seq.{GetsStuckFor, seq_output, seq_report};
 ghost use Rattle.tw_device.specs.Source.{LosesInput, TakesInput};
+ghost use Rattle.tw_handlers.specs.Calls.{counter_full};
+ghost use Rattle.tw_model.specs.declared.memory.OrMemory.TheVariants as or_memory;
 ghost use Rattle.tw_run.specs.Asked.{IsReady};
-ghost use Rattle.tw_run.specs.Ran.{HasRunAnew, HasStoppedBy, IsRunBy, IsRunByAny, IsRunOf, MayStop, MayStopAlone, MayStopBy};
+ghost use Rattle.tw_run.specs.Ran.{HasRunAnew, HasStoppedBy, IsRunBy, IsRunByAny, IsRunOf, MayStop};
 ghost use Rattle.tw_run.specs.Threaded.{AnswersThreaded, LeavesThreaded, LeavesThreadedFor};
 ghost use Rattle.tw_run.specs.declared.ran.By.TheVariants as by;
 ghost use Rattle.tw_seq.specs.Run.{GetsStuck, complete_run};
@@ -11,7 +13,7 @@ ghost use Rattle.tw_seq.specs.Run.{GetsStuck, complete_run};
 use crate::cause::Stopped;
 use crate::chosen::{Come, run_to_stop};
 use crate::dealing::{Dealing, open_dealt};
-use crate::ran::{By, Ran, left_alone, left_by};
+use crate::ran::{By, Ran, left_by};
 use crate::segments::{handled_by, run_through};
 use std::alloc::{AllocError, Global};
 use std::snapshot::Snapshot;
@@ -24,7 +26,7 @@ use tw_instance::Case;
 use tw_model::OrMemory;
 use tw_parallel::{Gate, Sim};
 use tw_report::write_report;
-use tw_seq::TracedRun;
+use tw_seq::{CounterFull, TracedRun};
 use tw_shape::Verdict;
 use tw_sim::Cancel;
 use tw_text::read_case;
@@ -119,29 +121,10 @@ fn answer_case<X: Threads + Wait + Sync + Clock, W: Sink, O: Progress + Stages +
         (W.written sink.old) (W.written sink.new) (W.failed sink.new) }
 {
     observer.has_read();
-    let ran = run_case(rt, alloc, case, asked, observer);
+    let ended = run_case(rt, alloc, case, asked, observer);
     observer.ended();
-    match ran {
-        Ok(ran) => {
-            observer.has_run(&ran.outcome);
-            write_left(sink, case, &ran, asked)
-        }
-        Err(why) => Err(why.cause()),
-    }
-}
-
-/// Writes the report of what a run of the case leaves.
-fn write_left<W: Sink>(
-    sink: &mut W,
-    case: &Case,
-    ran: &Ran<'_>,
-    asked: Asked,
-) -> Result<Status, Cause>
-    requires open { W.failed sink.old ≡ false }
-    requires ran { IsRunOf case.now asked ran.now }
-    ensures { LeavesThreaded result (seq_report asked.stop asked.every asked.log case.now) (GetsStuck case.now asked.stop)
-        (W.written sink.old) (W.written sink.new) (W.failed sink.new) }
-{
+    let ran = ended?;
+    observer.has_run(&ran.outcome);
     let verdict = Verdict::of(&ran.outcome, ran.found);
     write_report(sink, case.instance(), &ran.outcome, verdict, asked.log)?;
     Ok(Status::Done)
@@ -155,7 +138,7 @@ fn run_case<'a, X: Threads + Wait + Sync + Clock, O: Progress + Stages + Gate + 
     case: &'a Case,
     asked: Asked,
     observer: &O,
-) -> Result<Ran<'a>, Stopped<'a>>
+) -> Result<Ran<'a>, Stopped<CounterFull>>
     requires ready { IsReady asked }
     ensures ran { IfOk result (λ ran. IsRunOf case.now asked ran) }
     ensures by_workers { (n : ℕ) → asked.workers ≡ Some n → 1 < n → IfOk result (λ ran. IsRunBy case.now asked n ran.by) }
@@ -163,9 +146,9 @@ fn run_case<'a, X: Threads + Wait + Sync + Clock, O: Progress + Stages + Gate + 
     ensures stopped { IfErr result (λ why. MayStop case.now asked why) }
 {
     match asked.workers {
-        None => run_chosen(rt, alloc, case, asked, observer),
+        None => Ok(run_chosen(rt, alloc, case, asked, observer)?),
         Some(workers) if workers > 1 => run_by_all(rt, alloc, case, asked, workers, observer),
-        Some(_) => run_alone(alloc, case, asked, observer),
+        Some(_) => Ok(run_alone(alloc, case, asked, observer)?),
     }
 }
 
@@ -177,11 +160,11 @@ fn run_chosen<'a, X: Threads + Wait + Sync + Clock, O: Progress + Stages + Gate 
     case: &'a Case,
     asked: Asked,
     observer: &O,
-) -> Result<Ran<'a>, Stopped<'a>>
+) -> Result<Ran<'a>, OrMemory<CounterFull>>
     requires ready { IsReady asked }
     ensures ran { IfOk result (λ ran. IsRunOf case.now asked ran) }
     ensures by { IfOk result (λ ran. IsRunByAny case.now asked ran.by) }
-    ensures stopped { IfErr result (λ why. MayStopAlone case.now asked.stop why) }
+    ensures full { IsErrOf result (or_memory.Fault counter_full) → GetsStuck case.now asked.stop }
 {
     if asked.every.is_some() || asked.log {
         return run_alone(alloc, case, asked, observer);
@@ -205,7 +188,12 @@ fn left_at_stop<'a>(case: &Case, asked: Asked, run: &TracedRun<'_>) -> Result<Ra
     ensures ran { IfOk result (λ ran. IsRunOf case.now asked ran) }
     ensures by { IfOk result (λ ran. ran.by ≡ by.OneThread) }
 {
-    Ok(left_alone(run.run().outcome_without_events()?, None))
+    let outcome = run.run().outcome_without_events()?;
+    Ok(Ran {
+        outcome,
+        found: None,
+        by: By::OneThread,
+    })
 }
 
 /// Runs a case to the stop by so many workers, and on one thread only where these have met a full counter.
@@ -216,19 +204,19 @@ fn run_by_all<'a, X: Threads + Wait + Sync, O: Progress + Stages + Gate + Sync>(
     asked: Asked,
     workers: u32,
     observer: &O,
-) -> Result<Ran<'a>, Stopped<'a>>
+) -> Result<Ran<'a>, Stopped<CounterFull>>
     requires ready { IsReady asked }
-    requires some { 0 < workers }
+    requires many { 1 < workers }
+    requires told { asked.workers ≡ Some workers }
     ensures ran { IfOk result (λ ran. IsRunOf case.now asked ran) }
     ensures by { IfOk result (λ ran. IsRunBy case.now asked workers ran.by) }
-    ensures stopped { IfErr result (λ why. MayStopBy case.now asked.stop why) }
+    ensures stopped { IfErr result (λ why. MayStop case.now asked why) }
 {
     match run_by_workers(rt, alloc, case, asked, workers, observer) {
         Ok(ran) => Ok(ran),
-        Err(Stopped::FullAhead(sim)) => run_anew(alloc, case, asked, sim, observer),
+        Err(Stopped::Full(sim)) => Ok(run_anew(alloc, case, asked, sim, observer)?),
         Err(Stopped::Memory) => Err(Stopped::Memory),
         Err(Stopped::NoThread) => Err(Stopped::NoThread),
-        Err(Stopped::CounterFull) => Err(Stopped::CounterFull),
     }
 }
 
@@ -240,7 +228,7 @@ fn run_by_workers<'a, X: Threads + Wait + Sync, O: Progress + Stages + Gate + Sy
     asked: Asked,
     workers: u32,
     observer: &O,
-) -> Result<Ran<'a>, Stopped<'a>>
+) -> Result<Ran<'a>, Stopped<Sim<'a>>>
     requires ready { IsReady asked }
     requires some { 0 < workers }
     ensures ran { IfOk result (λ ran. IsRunOf case.now asked ran) }
@@ -261,11 +249,11 @@ fn run_anew<'a, O: Progress + Stages>(
     asked: Asked,
     sim: Sim<'a>,
     observer: &O,
-) -> Result<Ran<'a>, Stopped<'a>>
+) -> Result<Ran<'a>, OrMemory<CounterFull>>
     requires ready { IsReady asked }
     ensures ran { IfOk result (λ ran. IsRunOf case.now asked ran) }
     ensures by { IfOk result (λ ran. HasRunAnew sim.entry ran.by) }
-    ensures stopped { IfErr result (λ why. MayStopAlone case.now asked.stop why) }
+    ensures full { IsErrOf result (or_memory.Fault counter_full) → GetsStuck case.now asked.stop }
 {
     observer.begins_anew();
     let ran = run_alone(alloc, case, asked, observer)?;
@@ -281,11 +269,11 @@ fn run_alone<'a, O: Progress + Stages>(
     case: &'a Case,
     asked: Asked,
     observer: &O,
-) -> Result<Ran<'a>, Stopped<'a>>
+) -> Result<Ran<'a>, OrMemory<CounterFull>>
     requires ready { IsReady asked }
     ensures ran { IfOk result (λ ran. IsRunOf case.now asked ran) }
     ensures by { IfOk result (λ ran. ran.by ≡ by.OneThread) }
-    ensures stopped { IfErr result (λ why. MayStopAlone case.now asked.stop why) }
+    ensures full { IsErrOf result (or_memory.Fault counter_full) → GetsStuck case.now asked.stop }
 {
     observer.goes_alone();
     let (outcome, found) = run_on_one_thread(
@@ -296,5 +284,9 @@ fn run_alone<'a, O: Progress + Stages>(
         asked.log,
         observer,
     )?;
-    Ok(left_alone(outcome, found))
+    Ok(Ran {
+        outcome,
+        found,
+        by: By::OneThread,
+    })
 }

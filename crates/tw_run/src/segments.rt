@@ -29,7 +29,7 @@ fn run_on<'a, X: Threads + Wait + Sync, O: Stages + Gate + Sync>(
     stop: u64,
     batch: u32,
     observer: &O,
-) -> Result<Sim<'a>, Stopped<'a>>
+) -> Result<Sim<'a>, Stopped<Sim<'a>>>
     requires all { AreDealtToAll sim }
     requires stop { sim.board.stop ≤ stop }
     requires latest { stop ≤ LATEST }
@@ -57,7 +57,7 @@ pub(crate) fn run_to<'a, X: Threads + Wait + Sync, O: Stages + Gate + Sync>(
     checkpoints: u64,
     stop: u64,
     observer: &O,
-) -> Result<Sim<'a>, Stopped<'a>>
+) -> Result<Sim<'a>, Stopped<Sim<'a>>>
     requires some { 0 < workers sim.board }
     requires dealt { asked.dealing.rotate ≡ false → AreDealtAs asked.dealing checkpoints sim }
     requires checkpoints { checkpoints ≤ LATEST }
@@ -87,7 +87,7 @@ fn run_in_pieces<'a, X: Threads + Wait + Sync, O: Progress + Stages + Gate + Syn
     checkpoints: u64,
     time: u64,
     observer: &O,
-) -> Result<Sim<'a>, Stopped<'a>>
+) -> Result<Sim<'a>, Stopped<Sim<'a>>>
     requires some { 0 < workers sim.board }
     requires dealt { asked.dealing.rotate ≡ false → AreDealtAs asked.dealing checkpoints sim }
     requires checkpoints { checkpoints ≤ LATEST }
@@ -133,7 +133,7 @@ pub(crate) fn run_through<'a, X: Threads + Wait + Sync, O: Progress + Stages + G
     sim: Sim<'a>,
     asked: Asked,
     observer: &O,
-) -> Result<(Sim<'a>, Option<Finding>), Stopped<'a>>
+) -> Result<(Sim<'a>, Option<Finding>), Stopped<Sim<'a>>>
     requires some { 0 < workers sim.board }
     requires dealt { AreDealtAs asked.dealing 0 sim }
     requires opening { sim.board.stop ≡ 0 }
@@ -167,7 +167,7 @@ fn run_watched<'a, X: Threads + Wait + Sync, O: Progress + Stages + Gate + Sync>
     asked: Asked,
     every: u64,
     observer: &O,
-) -> Result<(Sim<'a>, Option<Finding>), Stopped<'a>>
+) -> Result<(Sim<'a>, Option<Finding>), Stopped<Sim<'a>>>
     requires workers { 0 < workers sim.board }
     requires dealt { AreDealtAs asked.dealing 0 sim }
     requires opening { sim.board.stop ≡ 0 }

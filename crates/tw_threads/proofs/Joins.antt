@@ -3,7 +3,6 @@ use Rattle.std.proofs.Common.{◌≡◌, ◌⊎◌, inl, inr, ℕ, suc, zero, Bo
 use Rattle.std.proofs.lemmas.List.{append-nil, map-append}
 use Rattle.std.proofs.lemmas.Option.{none-some, same_Some}
 use Rattle.std.specs.List.{AllByRecursion, AllZip}
-use Rattle.tw_shard.specs.Shard.{IsSameShare, Shard}
 use Rattle.tw_table.specs.Seats.{IsSeatOf, halted_at, share_at}
 use Rattle.tw_table.specs.Shares.{Share}
 use Rattle.tw_table.specs.declared.seat.Seat.{Seat}
@@ -14,11 +13,9 @@ use Rattle.tw_threads.specs.declared.end_cause.EndCause.{EndCause}
 use Rattle.tw_threads.specs.declared.end_cause.EndCause.TheVariants as cause
 use Rattle.tw_threads.specs.declared.start.Started.{Started}
 use Rattle.tw_threads.specs.declared.start.Started.TheVariants.{Aside, Here, Running}
+use Rattle.tw_workers.proofs.Places.{same_again}
 use Rattle.tw_workers.specs.declared.working.Leaving.{Leaving}
 use Rattle.tw_workers.specs.declared.working.Leaving.TheVariants as leaving
-
-same_again : (a b c : Shard) → IsSameShare a b → IsSameShare b c → IsSameShare a c
-same_again a b c first then = record { terms = then.terms ∙ first.terms; routers = then.routers ∙ first.routers }
 
 -- one that left a seat had left the one before
 pub left_again : (s : Share) (t : Table) (before seat after : Seat) (why : Leaving) → IsLaterSeat t before seat → IsLeft s t seat after why → IsLeft s t before after why

@@ -26,6 +26,10 @@ use Rattle.tw_sim.specs.Ordered.{least}
 use Rattle.tw_table.specs.Shares.{Share, place_of}
 use Rattle.tw_workers.specs.Work.{IsAtWork, PreservesShare}
 
+-- a shard that is the same worker's still is so after one more call
+pub same_again : (a b c : Shard) → IsSameShare a b → IsSameShare b c → IsSameShare a c
+same_again a b c first last = record { terms = last.terms ∙ first.terms; routers = last.routers ∙ first.routers }
+
 -- ---- the share after a call
 
 -- it is the place whose routers have become another machine
@@ -68,7 +72,7 @@ kept_both stop s t u one two =
     let first = one.place in
     let second : PreservesPlace m stop (place_of t) (place_of u) = subst (λ (c : Case). PreservesPlace (simulation c) stop (place_of t) (place_of u)) (ap (λ x. x.case) one.shard.terms) two.place in
     record {
-      shard = record { terms = two.shard.terms ∙ one.shard.terms; routers = two.shard.routers ∙ one.shard.routers };
+      shard = same_again s.shard t.shard u.shard one.shard two.shard;
       place = record {
         worker = second.worker ∙ first.worker;
         owns = second.owns ∙ first.owns;

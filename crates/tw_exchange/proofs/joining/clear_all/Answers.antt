@@ -3,12 +3,12 @@ use Rattle.tw_exchange.proofs.Behind.{all_emptied, cleared, emptied}
 use Rattle.tw_exchange.proofs.joining.clear_all.Goals as goal
 
 pub loop-worker-preserved : goal.loop-worker-preserved
-loop-worker-preserved c =
+loop-worker-preserved g c =
     let step = c.loop-worker in
     record {
-      times = cleared step.lists step.times step.worker c.clear.new.self step.invariant.times c.clear.ensures.items;
-      empty = emptied step.lists step.worker c.clear.new.self c.clear.ensures.items (omega arith) step.invariant.empty;
+      times = cleared g.E.Timed.parts step.lists step.times step.worker c.clear.new.self step.invariant.times c.clear.ensures.items;
+      empty = emptied g.E.Timed.parts step.lists step.worker c.clear.new.self c.clear.ensures.items (omega arith) step.invariant.empty;
     }
 
 pub returns-clause-lists : goal.returns-clause-lists
-returns-clause-lists c = all_emptied c.loop-worker.lists c.loop-worker.worker c.loop-worker.invariant.empty (omega arith)
+returns-clause-lists g c = all_emptied g.E.Timed.parts c.loop-worker.lists c.loop-worker.worker c.loop-worker.invariant.empty (omega arith)

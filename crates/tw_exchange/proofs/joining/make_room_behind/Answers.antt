@@ -10,13 +10,13 @@ on_err Q (Ok x) q = tt
 on_err Q (Err e) q = q
 
 pub loop-worker-preserved : goal.loop-worker-preserved
-loop-worker-preserved c =
+loop-worker-preserved g c =
     let step = c.loop-worker in
     let lists = c.args.lists.now in
     let list = c.index-lists-worker.result in
     record {
       same = items_same step.mail step.worker c.make_room_for.new.mail c.index-mail-worker.result c.in_ok-make_room_for.ensures.same ∙ step.invariant.same;
-      room = room_up_to step.mail (items lists) step.worker c.make_room_for.new.mail step.invariant.room (λ some.
+      room = room_up_to g.E.Timed.parts step.mail (items lists) step.worker c.make_room_for.new.mail step.invariant.room (λ some.
           let room = c.in_ok-make_room_for.ensures.room some in
           let same = ap length (items_at lists step.worker list (omega arith)) in
           let there = ap (λ v. length v.items) c.index-lists-worker.is in
@@ -26,11 +26,11 @@ loop-worker-preserved c =
     }
 
 pub returns-in_err-make_room_for-clause-same : goal.returns-in_err-make_room_for-clause-same
-returns-in_err-make_room_for-clause-same c =
+returns-in_err-make_room_for-clause-same g c =
     items_same c.loop-worker.mail c.loop-worker.worker c.make_room_for.new.mail c.index-mail-worker.result c.in_err-make_room_for.ensures.same ∙ c.loop-worker.invariant.same
 
 pub returns-in_err-make_room_for-clause-wanted : goal.returns-in_err-make_room_for-clause-wanted
-returns-in_err-make_room_for-clause-wanted c =
+returns-in_err-make_room_for-clause-wanted g c =
     let lists = c.args.lists.now in
     let list = c.index-lists-worker.result in
     let w = c.loop-worker.worker in

@@ -1,6 +1,8 @@
-use Rattle.std.proofs.Common.{◌∙◌, sym}
+use Rattle.std.proofs.Common.{◌<◌, ◌^◌, ◌∙◌, subst, sym}
 use Rattle.tw_exchange.proofs.Dealt.{report_at}
 use Rattle.tw_exchange.proofs.times.report_with.Goals as goal
 
 pub returns : goal.returns
-returns c = report_at c.args.report c.args.messages.now _ c.args.least c.lesser.result (sym c.is_empty.ensures ∙ c.if-is_empty.false) c.if-is_empty.element_fits.fits c.requires c.lesser.ensures
+returns g c =
+    let fits = subst (λ n. n < 2 ^ 64) c.time-time.ensures c.time-time.type_inv in
+    report_at g.E.Timed.parts c.args.report c.args.messages.now c.index-messages-0.result c.args.least c.lesser.result (sym c.is_empty.ensures ∙ c.if-is_empty.false) fits c.requires c.lesser.ensures

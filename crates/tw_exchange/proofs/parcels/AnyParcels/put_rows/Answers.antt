@@ -1,0 +1,22 @@
+use Rattle.std.proofs.Common.{◌≡◌, ◌∙◌, [], ap, length, replicate, sym}
+use Rattle.std.proofs.lemmas.List.{with_items_is}
+use Rattle.std.proofs.lemmas.Result.{on_ok_weaker}
+use Rattle.std.specs.Vec.{with_items}
+use Rattle.tw_exchange.specs.AnyBoard.{followed, worker_for}
+use Rattle.tw_exchange.specs.Owners.{list_of}
+use Rattle.tw_exchange.specs.Rows.{items}
+use Rattle.tw_exchange.proofs.Dealt.{dealt_new}
+use Rattle.tw_exchange.proofs.Rooms.{length_items}
+use Rattle.tw_exchange.proofs.parcels.AnyParcels.put_rows.Goals as goal
+
+pub returns-clause-dealt : goal.returns-clause-dealt
+returns-clause-dealt g c =
+    let a = c.self.inside in
+    let owners = list_of c.args.owners.now in
+    let out = c.args.messages.now in
+    let rows = c.deref_mut.ensures.value in
+    let many : length c.deref_mut.result.now ≡ length c.args.self.now = ap length rows ∙ (sym (length_items a.lists.items) ∙ ap length c.self.view_is) in
+    let none : items c.deref_mut.result.now ≡ replicate (length c.args.self.now) [] = ap items rows ∙ (c.self.view_is ∙ c.requires.none) in
+    let put = with_items_is a.lists c.deposit.new.mail (c.deposit.auto.mail ∙ c.deref_mut.ensures.len) in
+    on_ok_weaker c.deposit.result (λ ok. dealt_new g.E.Timed.parts owners (length c.args.self.now) out (items (with_items a.lists c.deposit.new.mail).items) c.requires.home
+    (ap items put ∙ (ok ∙ λ i. followed g.E.Timed.parts (worker_for owners (many i)) 0 out (none i)))) c.deposit.ensures.ok
