@@ -119,7 +119,7 @@ module _ (case : Case) (is : IsCase case) (whose : ℕ → ℕ) (time : ℕ) (re
   -- a share at a time is a place at the cut
   place_at : (k : ℕ) (t : Share) → IsShareAt case whose time k retains cancel t → IsCutPlace m whose time k (place_of t)
   place_at k t at = record {
-    worker = at.shard.terms.worker;
+    worker = at.shard.worker;
     owns = λ r known. is_own k r t at known;
     history = λ r. history_at k r t at;
     pending = pending_at k t at;
@@ -148,7 +148,7 @@ module _ (case : Case) (is : IsCase case) (whose : ℕ → ℕ) (time : ℕ) (re
   in_order k (t ∷ ts) at =
       let next : suc k ≡ k + 1 = omega arith in
       let others = in_order (suc k) ts at.1 ∙ ap (λ j. range_with_len j (length ts)) next in
-      λ i. at.0.shard.terms.worker i ∷ others i
+      λ i. at.0.shard.worker i ∷ others i
 
   -- when they take back what undone events have sent
   pub cancels_at : (k : ℕ) (ts : List Share) → AreSharesAt case whose time k retains cancel ts → map (λ (t : Share). t.shard.terms.cancel) ts ≡ replicate (length ts) cancel
