@@ -13,6 +13,7 @@ use Rattle.tw_model.proofs.Nets.{slot_at}
 use Rattle.tw_instance.specs.Extensions.{HasExtensions, HasRow}
 use Rattle.tw_instance.specs.Guesses.{AreGuesses}
 use Rattle.tw_instance.specs.Hops.{peers_of}
+use Rattle.tw_instance.specs.Orders.{StandAsIn}
 use Rattle.tw_instance.specs.Peers.{HasPeers}
 use Rattle.tw_instance.specs.Sparse.{AreRowsOf}
 use Rattle.tw_instance.specs.declared.extensions.Extensions.{Extensions}
@@ -56,8 +57,11 @@ at_slot net v w k low is =
 -- rows behind one another hold the neighbours of each router
 pub has_peers : (net : Net) (t : Peers) → IsNet net → AreRowsOf (peers_of net) net.nodes t.starts.items t.neighbours.items
     → length t.guesses.items ≡ net.nodes
-    → ((v : ℕ) → v < net.nodes → AreGuesses (peers_of net v) (get_or t.guesses.items v [])) → HasPeers net t
-has_peers net t h so long right = record {
+    → ((v : ℕ) → v < net.nodes → AreGuesses (peers_of net v) (get_or t.guesses.items v []))
+    → length t.orders.items ≡ net.nodes
+    → ((v : ℕ) → v < net.nodes → StandAsIn (peers_of net v) (get_or t.orders.items v [])) → HasPeers net t
+has_peers net t h so long right as_long as_right = record {
+  orders = λ v below. as_right v (omega arith);
   guesses = λ v below. right v (omega arith);
   rows = λ v. elim (cases_lt v net.nodes) [
     | inl below ↦ so.rows v below

@@ -4,6 +4,7 @@ pub mod Sparse
 pub mod Chained
 pub mod Finding
 mod Guesses
+mod Orders
 pub mod Hashes
 mod Firsts
 pub mod Extending

@@ -9,6 +9,7 @@ pub mod Index
 pub mod Instance
 pub mod Marks
 pub mod Opening
+pub mod Orders
 pub mod Peers
 pub mod Places
 pub mod Sparse

@@ -1,6 +1,6 @@
 //! The neighbours of each router, and the slot of a neighbour.
 
-ghost use Rattle.std.specs.Prelude.{◌≡◌, ◌+◌, ◌++◌, ◌<◌, ◌≤◌, ℕ, List, [], length, map, slice_index_or, IfOk, IsTrue, OnOk, SomeIff};
+ghost use Rattle.std.specs.Prelude.{◌≡◌, ◌+◌, ◌++◌, ◌<◌, ◌≤◌, ℕ, List, [], length, map, slice_index_or, IfOk, IfSome, IsTrue, OnOk, SomeIff};
 ghost use Rattle.std.specs.List.{All};
 ghost use Rattle.tw_model.specs.declared.limits.TheConstants.{MOST_LINKS, MOST_ROUTERS};
 ghost use Rattle.tw_model.specs.Net.{Net};
@@ -8,16 +8,22 @@ ghost use Rattle.tw_model.specs.Rules.{IsNet};
 ghost use Rattle.tw_model.specs.State.{has_peer, slot as slot_of};
 ghost use Rattle.tw_instance.specs.Guesses.{AreGuesses};
 ghost use Rattle.tw_instance.specs.Hops.{peers_of};
+ghost use Rattle.tw_instance.specs.Orders.{StandAsIn, StandsAt};
 ghost use Rattle.tw_instance.specs.Sparse.{AreRowsOf, IsRowWithin, cut};
 
 use crate::instance::Instance;
 use std::alloc::{AllocError, Global};
+use std::simd::prelude::*;
 use tw_lanes::first_equal;
 use tw_model::Hop;
+use tw_model::limits::MOST_LINKS;
 
 /// How many guesses are kept of each router: one for each neighbour that it may have, so that neighbours
 /// with consecutive numbers all have their own.
 const GUESSES: usize = 64;
+
+/// What stands behind the last neighbour in an order. No router has this number.
+const NOBODY: u16 = u16::MAX;
 
 /// A neighbour of a router and its slot, side by side, so that most look-ups read one place of memory.
 #[derive(Clone, Copy, Drop, Debug)]
@@ -27,7 +33,7 @@ struct Guess {
 }
 
 /// The neighbours of each router in ascending order, in compressed sparse rows, with the slots of most of
-/// them by the remainders of their numbers.
+/// them by the remainders of their numbers. Where some have one remainder, slots are found by counting.
 #[derive(Drop, Debug)]
 pub struct Peers {
     /// Where the row of each router begins, and behind these where the last one ends.
@@ -36,6 +42,10 @@ pub struct Peers {
     neighbours: Vec<u32>,
     /// Of each router, by the remainder of a neighbour's number, the neighbour that is looked for first.
     guesses: Vec<[Guess; GUESSES]>,
+    /// Of each router its neighbours in ascending order, and nobody behind them.
+    orders: Vec<[u16; MOST_LINKS]>,
+    /// Whether two neighbours of the router have one remainder.
+    crowded: Vec<bool>,
     ghost cuts: { (r : ℕ) → r + 1 < length starts.items → IsRowWithin starts.items r (length neighbours.items) },
     ghost guessed: { length starts.items ≡ length guesses.items + 1 },
 }
@@ -49,10 +59,14 @@ impl Peers {
     {
         let (starts, neighbours) = rows_of(alloc, instance)?;
         let guesses = guesses_of(alloc, instance)?;
+        let orders = orders_of(alloc, instance)?;
+        let crowded = crowded_of(alloc, instance)?;
         Ok(Peers {
             starts,
             neighbours,
             guesses,
+            orders,
+            crowded,
         })
     }
 
@@ -65,11 +79,25 @@ impl Peers {
         if index + 1 >= self.starts.len() {
             return None;
         }
+        if let Some(slot) = self.slot_by_order(index, peer) {
+            return Some(slot);
+        }
         let guess = self.guesses[index][peer as usize % GUESSES];
         if u32::from(guess.peer) == peer {
             return Some(usize::from(guess.slot));
         }
         first_equal(self.row(index), peer)
+    }
+
+    /// The slot of a neighbour of a router that is crowded.
+    #[inline(always)]
+    fn slot_by_order(&self, index: usize, peer: u32) -> Option<usize>
+        ensures { (net : Net) → HasPeers net self.now → IfSome result (StandsAt (peers_of net index) peer) }
+    {
+        if !matches!(self.crowded.get(index), Some(true)) {
+            return None;
+        }
+        slot_in(self.orders.get(index)?, peer)
     }
 
     /// The neighbours of a router.
@@ -81,6 +109,31 @@ impl Peers {
         let (start, end) = (self.starts[index], self.starts[index + 1]);
         &self.neighbours[start as usize..end as usize]
     }
+}
+
+/// The place of a number in an order, if it stands there: as many are below it.
+#[inline(always)]
+fn slot_in(order: &[u16; MOST_LINKS], peer: u32) -> Option<usize>
+    ensures { (row : List ℕ) → StandAsIn row order.now → IfSome result (StandsAt row peer) }
+{
+    let peer = u16::try_from(peer).ok()?;
+    let place = count_below(order, peer);
+    let found = *order.get(place)?;
+    if found == NOBODY || found != peer {
+        return None;
+    }
+    Some(place)
+}
+
+/// How many numbers of an order are below a limit.
+#[inline(always)]
+fn count_below(order: &[u16; MOST_LINKS], limit: u16) -> usize {
+    let below = u16x64::from_array(*order).simd_lt(u16x64::splat(limit));
+    usize::from(
+        below
+            .select(u16x64::splat(1), u16x64::splat(0))
+            .reduce_sum(),
+    )
 }
 
 /// Where the row of each router begins, and the neighbours, row by row.
@@ -144,4 +197,48 @@ fn no_guesses() -> [Guess; GUESSES]
     let mut guesses = [Guess { peer: 0, slot: 0 }; GUESSES];
     guesses[0] = Guess { peer: 1, slot: 0 };
     guesses
+}
+
+/// The neighbours of each router in ascending order.
+fn orders_of(alloc: Global, instance: &Instance) -> Result<Vec<[u16; MOST_LINKS]>, AllocError>
+    ensures long { IfOk result (λ orders. length orders.items ≡ instance.now.nodes) }
+    ensures right { IfOk result (λ orders. (v : ℕ) → v < instance.now.nodes
+        → StandAsIn (peers_of instance.now v) (slice_index_or orders.items v [])) }
+{
+    let mut orders = Vec::with_capacity(alloc, instance.nodes() as usize)?;
+    for node in 0..instance.nodes() {
+        orders.push(order_of(instance.hops(node)))?;
+    }
+    Ok(orders)
+}
+
+/// The neighbours of a router in ascending order, as its links are.
+fn order_of(hops: &[Hop]) -> [u16; MOST_LINKS]
+    requires few { length hops.now ≤ MOST_LINKS }
+    requires low { All (λ h. h.peer < MOST_ROUTERS) hops.now }
+    ensures { StandAsIn (map (λ h. h.peer) hops.now) result }
+{
+    let mut order = [NOBODY; MOST_LINKS];
+    for (slot, hop) in hops.iter().enumerate() {
+        order[slot] = hop.peer as u16;
+    }
+    order
+}
+
+/// Of each router whether two of its neighbours have one remainder.
+fn crowded_of(alloc: Global, instance: &Instance) -> Result<Vec<bool>, AllocError> {
+    let mut crowded = Vec::with_capacity(alloc, instance.nodes() as usize)?;
+    for node in 0..instance.nodes() {
+        crowded.push(is_crowded(instance.hops(node)))?;
+    }
+    Ok(crowded)
+}
+
+/// Whether two neighbours have one remainder.
+fn is_crowded(hops: &[Hop]) -> bool {
+    let mut met = 0_u64;
+    for hop in hops {
+        met |= 1 << (hop.peer % GUESSES as u32);
+    }
+    met.count_ones() as usize != hops.len()
 }

@@ -7,6 +7,7 @@ ghost use Rattle.tw_model.specs.declared.memory.OrMemory.TheVariants as or_memor
 ghost use Rattle.tw_run.specs.Asked.{IsReady};
 ghost use Rattle.tw_run.specs.Ran.{HasRunAnew, HasStoppedBy, IsRunBy, IsRunByAny, IsRunOf, MayStop};
 ghost use Rattle.tw_run.specs.Threaded.{AnswersThreaded, LeavesThreaded, LeavesThreadedFor};
+ghost use Rattle.tw_run.specs.declared.cause.Stopped.TheVariants as stopped;
 ghost use Rattle.tw_run.specs.declared.ran.By.TheVariants as by;
 ghost use Rattle.tw_seq.specs.Run.{GetsStuck, complete_run};
 
@@ -206,11 +207,10 @@ fn run_by_all<'a, X: Threads + Wait + Sync, O: Progress + Stages + Gate + Sync>(
     observer: &O,
 ) -> Result<Ran<'a>, Stopped<CounterFull>>
     requires ready { IsReady asked }
-    requires many { 1 < workers }
-    requires told { asked.workers ≡ Some workers }
+    requires some { 0 < workers }
     ensures ran { IfOk result (λ ran. IsRunOf case.now asked ran) }
     ensures by { IfOk result (λ ran. IsRunBy case.now asked workers ran.by) }
-    ensures stopped { IfErr result (λ why. MayStop case.now asked why) }
+    ensures full { IsErrOf result (stopped.Full counter_full) → GetsStuck case.now asked.stop }
 {
     match run_by_workers(rt, alloc, case, asked, workers, observer) {
         Ok(ran) => Ok(ran),

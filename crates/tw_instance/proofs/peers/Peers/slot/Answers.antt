@@ -4,9 +4,18 @@ use Rattle.std.proofs.lemmas.List.{get_or_default, length-map}
 use Rattle.tw_model.specs.Net.{hops_of}
 use Rattle.tw_instance.specs.Guesses.{AreGuesses}
 use Rattle.tw_instance.specs.Hops.{peers_of}
+use Rattle.tw_instance.specs.Orders.{StandsAt}
 use Rattle.tw_instance.proofs.Guesses.{guessed}
 use Rattle.tw_instance.proofs.Indexed.{at_slot, is_slot, slot_map}
 use Rattle.tw_instance.proofs.peers.Peers.slot.Goals as goal
+
+pub returns-in-Some : goal.returns-in-Some
+returns-in-Some c net h =
+    let v = c.args.node in
+    let w = c.args.peer in
+    let k = c.in-Some.slot in
+    let stands : StandsAt (peers_of net v) w k = c.in-Some.ensures net h in
+    at_slot net v w k (let n = length-map (hops_of net v) (λ h. h.peer) in let l = stands.0 in omega arith) stands.1
 
 pub returns-then-from-peer : goal.returns-then-from-peer
 returns-then-from-peer c net h =
