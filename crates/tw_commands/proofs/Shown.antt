@@ -4,6 +4,7 @@ use Rattle.std.proofs.lemmas.List.Elements.{All-nil}
 use Rattle.tw_model.specs.Case.{Case, IsCase}
 use Rattle.tw_model.specs.Net.{Net}
 use Rattle.tw_model.specs.Summary.{Summary}
+use Rattle.tw_options.specs.declared.command_line.Report.{Report as AReport}
 use Rattle.tw_report.specs.Lines.{NamesPath}
 use Rattle.tw_report.specs.Report.{HasPaths, head_lines, report_text}
 use Rattle.tw_seq.specs.Outcome.{outcome_of}
@@ -21,13 +22,13 @@ shown_text net true o found = refl
 shown_text net false o found = refl
 
 -- what is shown of a run makes its report
-pub shown_report : (case : Case) (net : Net) (stop : ℕ) (every : Option ℕ) (log : Bool) (o : Summary) (found : Option Finding) (verdict : Verdict)
-    → net ≡ case.net → o ≡ shown log (outcome_of (complete_run case stop)) → found ≡ found_to case stop every → verdict ≡ verdict_of o found
-    → report_text net o verdict log ≡ (seq_report stop every log case).text
-shown_report case net stop every log o found verdict own told found_is verdict_is =
-    (λ i. report_text (own i) o (verdict_is i) log)
-    ∙ ((λ i. report_text case.net (told i) (verdict_of (told i) (found_is i)) log)
-    ∙ shown_text case.net log (outcome_of (complete_run case stop)) (found_to case stop every))
+pub shown_report : (case : Case) (net : Net) (asked : AReport) (o : Summary) (found : Option Finding) (verdict : Verdict)
+    → net ≡ case.net → o ≡ shown asked.log (outcome_of (complete_run case asked.stop)) → found ≡ found_to case asked.stop asked.every → verdict ≡ verdict_of o found
+    → report_text net o verdict asked.log ≡ (seq_report asked case).text
+shown_report case net asked o found verdict own told found_is verdict_is =
+    (λ i. report_text (own i) o (verdict_is i) asked.log)
+    ∙ ((λ i. report_text case.net (told i) (verdict_of (told i) (found_is i)) asked.log)
+    ∙ shown_text case.net asked.log (outcome_of (complete_run case asked.stop)) (found_to case asked.stop asked.every))
 
 paths_of : (net : Net) (log : Bool) (o : Summary) → HasPaths net o → HasPaths net (shown log o)
 paths_of net true o h = h

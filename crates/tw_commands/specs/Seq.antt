@@ -5,6 +5,7 @@ use Rattle.tw_commands.specs.ForCase.{StuckFor, for_case}
 use Rattle.tw_commands.specs.Output.{Output}
 use Rattle.tw_model.specs.Case.{Case}
 use Rattle.tw_model.specs.Summary.{Summary}
+use Rattle.tw_options.specs.declared.command_line.Report.{Report as AReport}
 use Rattle.tw_report.specs.Report.{report_text}
 use Rattle.tw_seq.specs.Outcome.{outcome_of}
 use Rattle.tw_seq.specs.Run.{GetsStuck, complete_run}
@@ -25,13 +26,13 @@ shown log o = if log then o else record o { events = [] }
 abbrev pub report_of : Case → Bool → Summary → Option Finding → Output
 report_of case log o found = record { status = Done; text = report_text case.net o (verdict_of o found) log }
 
--- the report of the sequential run of the case to the stop
-abbrev pub seq_report : ℕ → Option ℕ → Bool → Case → Output
-seq_report stop every log case = report_of case log (outcome_of (complete_run case stop)) (found_to case stop every)
+-- the report of the sequential run of the case, as it was asked for: by its stop, its checkpoints and its log alone
+abbrev pub seq_report : AReport → Case → Output
+seq_report asked case = report_of case asked.log (outcome_of (complete_run case asked.stop)) (found_to case asked.stop asked.every)
 
 -- the report of the run of the case of a text, or why it has none
-abbrev pub seq_output : ℕ → Option ℕ → Bool → List ℕ → Output
-seq_output stop every log input = for_case (seq_report stop every log) (case_of input)
+abbrev pub seq_output : AReport → List ℕ → Output
+seq_output asked input = for_case (seq_report asked) (case_of input)
 
 -- the run of the case of a text gets stuck
 abbrev pub GetsStuckFor : ℕ → List ℕ → Type 0

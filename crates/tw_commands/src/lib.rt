@@ -35,4 +35,5 @@ pub use seq::{run_on_one_thread, seq_io};
 pub use stages::{Stages, count_committed};
 pub use told::Told;
 pub use trail::trail_io;
+pub use tw_options::{Machine, Report, Trail};
 pub use upgrade::upgrade_io;

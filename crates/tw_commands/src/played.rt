@@ -11,6 +11,7 @@ ghost use Rattle.tw_warp.specs.Warp.{warp_core};
 use crate::no_memory::NoMemory;
 use std::alloc::{AllocError, Global};
 use tw_instance::Case;
+use tw_options::Machine;
 use tw_report::{Counts, Replay};
 use tw_sim::{Cancel, Step};
 use tw_warp::{Answer, Warp};
@@ -20,15 +21,13 @@ pub(crate) fn play(
     alloc: Global,
     case: &Case,
     steps: &[Step],
-    stop: u64,
-    workers: u32,
-    cancel: Cancel,
+    machine: Machine,
 ) -> Result<Replay, NoMemory>
-    requires stop { stop ≤ LATEST }
-    requires workers { 0 < workers }
-    ensures { IfOk result (λ replay. replayed_of replay ≡ replayed stop cancel case.now steps.now) }
+    requires stop { machine.stop ≤ LATEST }
+    requires workers { 0 < machine.workers }
+    ensures { IfOk result (λ replay. replayed_of replay ≡ replayed machine.stop machine.cancel case.now steps.now) }
 {
-    let (warp, answers) = take_steps(alloc, case, steps, stop, workers, cancel)?;
+    let (warp, answers) = take_steps(alloc, case, steps, machine)?;
     Ok(told(&warp, answers)?)
 }
 
@@ -37,18 +36,16 @@ fn take_steps<'a>(
     alloc: Global,
     case: &'a Case,
     steps: &[Step],
-    stop: u64,
-    workers: u32,
-    cancel: Cancel,
+    machine: Machine,
 ) -> Result<(Warp<'a>, Vec<Answer>), NoMemory>
-    requires stop { stop ≤ LATEST }
-    requires workers { 0 < workers }
-    ensures machine { IfOk result (λ after. warp_core after.0 ≡ run (simulation case.now) (opening_machine case.now cancel stop) steps.now) }
-    ensures answers { IfOk result (λ after. after.1.items ≡ answers (simulation case.now) (opening_machine case.now cancel stop) steps.now) }
+    requires stop { machine.stop ≤ LATEST }
+    requires workers { 0 < machine.workers }
+    ensures machine { IfOk result (λ after. warp_core after.0 ≡ run (simulation case.now) (opening_machine case.now machine.cancel machine.stop) steps.now) }
+    ensures answers { IfOk result (λ after. after.1.items ≡ answers (simulation case.now) (opening_machine case.now machine.cancel machine.stop) steps.now) }
     ensures case { IfOk result (λ after. after.0.case ≡ case.now) }
-    ensures workers { IfOk result (λ after. length after.0.shards ≡ workers) }
+    ensures workers { IfOk result (λ after. length after.0.shards ≡ machine.workers) }
 {
-    let mut warp = Warp::with_cancel(alloc, case, workers, stop, cancel)?;
+    let mut warp = Warp::with_cancel(alloc, case, machine.workers, machine.stop, machine.cancel)?;
     let answers = warp.run(steps)?;
     Ok((warp, answers))
 }

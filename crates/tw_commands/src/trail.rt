@@ -15,17 +15,11 @@ use std::alloc::{AllocError, Global};
 use tw_device::{Page, Sink, Source, put_all};
 use tw_event::Event;
 use tw_instance::Case;
+use tw_options::Trail;
 use tw_report::{Refused, put_refused};
 use tw_seq::{LoggedRun, Running};
 
 /// The command `trail`: lets one router handle its events of a run once more and undo the last ones.
-#[derive(Clone, Copy)]
-struct Trail {
-    router: u32,
-    stop: u64,
-    keep: u64,
-}
-
 impl Command for Trail {
     type Input = Case;
 
@@ -66,7 +60,7 @@ fn write_trail<W: Sink>(
     Ok(Status::Done)
 }
 
-/// Reads a case, runs it on one thread to the stop, in ticks, and lets one router handle its events of
+/// Reads a case, runs it on one thread to the stop, and lets one router handle its events of
 /// that run once more and undo all but the first `keep`; writes the router before and after the
 /// undoing, and each event undone with what it had sent. Writes a refusal where the text is refused,
 /// or where the case has no such router, before anything is run.
@@ -74,19 +68,16 @@ pub fn trail_io<R: Source, W: Sink>(
     alloc: Global,
     source: &mut R,
     sink: &mut W,
-    router: u32,
-    stop: u64,
-    keep: u64,
+    trail: Trail,
 ) -> Result<Status, Cause>
     requires source { R.failed source.old ≡ false }
     requires sink { W.failed sink.old ≡ false }
-    requires stop { stop ≤ LATEST }
-    ensures answer { Answers result (trail_output router stop keep) (TrailGetsStuck router stop)
+    requires stop { trail.stop ≤ LATEST }
+    ensures answer { Answers result (trail_output trail.router trail.stop trail.keep) (TrailGetsStuck trail.router trail.stop)
         (R.remaining source.old) (W.written sink.old) (W.written sink.new) (R.failed source.new) (W.failed sink.new) }
     ensures read { OnOk result (LosesInput (R.remaining source.old) (R.remaining source.new)) }
     ensures most { TakesInput (R.remaining source.old) (R.remaining source.new) }
 {
-    let trail = Trail { router, stop, keep };
     answer_io(alloc, &trail, source, sink)
 }
 

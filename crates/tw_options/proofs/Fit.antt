@@ -38,8 +38,10 @@ run_fits name words named other f = record {
   known = inr (inr (inl refl));
   seq = λ e. absurd (differ (codes "run") (codes "seq") refl e);
   run = λ _. record {
-    stop = has_number (leaf twarp_app run_app.top) refl words f (codes "stop") 1 LATEST 0 (refl, refl);
-    every = has_number_if_given (leaf twarp_app run_app.top) refl words f (codes "every") 1 LATEST 1 (refl, (refl, refl));
+    report = record {
+      stop = has_number (leaf twarp_app run_app.top) refl words f (codes "stop") 1 LATEST 0 (refl, refl);
+      every = has_number_if_given (leaf twarp_app run_app.top) refl words f (codes "every") 1 LATEST 1 (refl, (refl, refl));
+    };
     workers = has_number_if_given (leaf twarp_app run_app.top) refl words f (codes "workers") 1 MOST_WORKERS 3 (refl, (refl, (refl, (refl, refl))));
     batch = has_number_if_given (leaf twarp_app run_app.top) refl words f (codes "batch") 1 MOST_BATCH 4 (refl, (refl, (refl, (refl, (refl, refl)))));
   };

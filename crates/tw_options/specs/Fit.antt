@@ -13,15 +13,14 @@ HasNumber id least most rows = (text : Text) × (one_of id rows ≡ Some text) �
 abbrev pub HasNumberIfGiven : Text → ℕ → ℕ → List Row → Type 0
 HasNumberIfGiven id least most rows = (text : Text) → one_of id rows ≡ Some text → IsUnsignedIn least most text
 
--- the numbers that `seq` takes
-pub record HasSeq (rows : List Row) : Type 0 where
+-- the numbers that a report takes
+pub record HasReport (rows : List Row) : Type 0 where
   pub stop : HasNumber (codes "stop") 1 LATEST rows
   pub every : HasNumberIfGiven (codes "every") 1 LATEST rows
 
 -- the numbers that `run` takes
 pub record HasRun (rows : List Row) : Type 0 where
-  pub stop : HasNumber (codes "stop") 1 LATEST rows
-  pub every : HasNumberIfGiven (codes "every") 1 LATEST rows
+  pub report : HasReport rows
   pub workers : HasNumberIfGiven (codes "workers") 1 MOST_WORKERS rows
   pub batch : HasNumberIfGiven (codes "batch") 1 MOST_BATCH rows
 
@@ -39,7 +38,7 @@ pub record HasReplay (rows : List Row) : Type 0 where
 -- a subcommand of ours was matched, with each option that it requires
 pub record Fits (name : Text) (rows : List Row) : Type 0 where
   pub known : (name ≡ codes "check") ⊎ ((name ≡ codes "seq") ⊎ ((name ≡ codes "run") ⊎ ((name ≡ codes "trail") ⊎ ((name ≡ codes "replay") ⊎ (name ≡ codes "upgrade")))))
-  pub seq : name ≡ codes "seq" → HasSeq rows
+  pub seq : name ≡ codes "seq" → HasReport rows
   pub run : name ≡ codes "run" → HasRun rows
   pub trail : name ≡ codes "trail" → HasTrail rows
   pub replay : name ≡ codes "replay" → HasReplay rows

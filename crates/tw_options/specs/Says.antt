@@ -1,11 +1,14 @@
 -- What the words of a command line say, as the parser matched them. Own.
-use Rattle.std.specs.Prelude.{◌≡◌, ◌⊎◌, ◌≤◌, ◌↔◌, ◌-◌, ℕ, Bool, IsTrue, List, Option, Some, None, codes}
+use Rattle.std.specs.Prelude.{◌≡◌, ◌⊎◌, ◌≤◌, ◌↔◌, ◌-◌, ℕ, Bool, true, false, IsTrue, List, Option, Some, None, codes}
 use Rattle.std.specs.Str.Parse.{IsNumeral, digits_value, without_leading_plus}
 use Rattle.clap.specs.Words.{Row, Text, one_of}
 use Rattle.tw_model.specs.declared.limits.TheConstants.{LATEST, MOST_ROUTERS, MOST_WORKERS}
 use Rattle.tw_options.specs.declared.number.TheConstants.{MOST_BATCH}
 use Rattle.tw_options.specs.declared.command_line.CommandLine.{CommandLine}
 use Rattle.tw_options.specs.declared.command_line.CommandLine.TheVariants.{Check, Seq, Run, Trail, Replay, Upgrade}
+use Rattle.tw_options.specs.declared.command_line.Report.{Report as AReport}
+use Rattle.tw_sim.specs.declared.machine.Cancel.{Cancel}
+use Rattle.tw_sim.specs.declared.machine.Cancel.TheVariants.{Aggressive, Lazy}
 
 -- n is the number given for the option id: its text is a decimal numeral for n, and n lies in the bounds
 pub record IsNumberGiven (id : Text) (least most : ℕ) (rows : List Row) (n : ℕ) : Type 0 where
@@ -29,24 +32,32 @@ IsNumberOr id least most default rows n = ((one_of id rows ≡ None) × (n ≡ d
 abbrev pub Sets : Text → List Row → Bool → Type 0
 Sets id rows b = IsTrue b ↔ (one_of id rows ≡ Some (codes "true"))
 
+-- what is taken back late is so by a flag
+abbrev pub is_lazy : Cancel → Bool
+is_lazy Aggressive = false
+is_lazy Lazy = true
+
+-- the report is the one that was asked for
+pub record SaysReport (rows : List Row) (report : AReport) : Type 0 where
+  pub stop : IsNumberGiven (codes "stop") 1 LATEST rows report.stop
+  pub every : IsNumberIfGiven (codes "every") 1 LATEST rows report.every
+  pub log : Sets (codes "log") rows report.log
+  pub progress : Sets (codes "progress") rows report.progress
+  pub stats : Sets (codes "stats") rows report.stats
+
 -- the command line is the subcommand that was matched, with what was given for its options
 abbrev pub Says : Option (Text × List Row) → CommandLine → Type 0
 Says None command = ⊥
 Says (Some found) Check = found.0 ≡ codes "check"
-Says (Some found) (Seq stop every log progress stats) =
-    (found.0 ≡ codes "seq") × IsNumberGiven (codes "stop") 1 LATEST found.1 stop
-    × IsNumberIfGiven (codes "every") 1 LATEST found.1 every × Sets (codes "log") found.1 log × Sets (codes "progress") found.1 progress
-    × Sets (codes "stats") found.1 stats
-Says (Some found) (Run stop every log workers batch lazy blocks rotate progress stats) =
-    (found.0 ≡ codes "run") × IsNumberGiven (codes "stop") 1 LATEST found.1 stop
-    × IsNumberIfGiven (codes "every") 1 LATEST found.1 every × Sets (codes "log") found.1 log
-    × IsNumberIfGiven (codes "workers") 1 MOST_WORKERS found.1 workers × IsNumberOr (codes "batch") 1 MOST_BATCH 64 found.1 batch
-    × Sets (codes "lazy") found.1 lazy × Sets (codes "blocks") found.1 blocks × Sets (codes "rotate") found.1 rotate
-    × Sets (codes "progress") found.1 progress × Sets (codes "stats") found.1 stats
-Says (Some found) (Trail router stop keep) =
-    (found.0 ≡ codes "trail") × IsNumberGiven (codes "router") 0 (MOST_ROUTERS - 1) found.1 router
-    × IsNumberGiven (codes "stop") 1 LATEST found.1 stop × IsNumberGiven (codes "keep") 0 LATEST found.1 keep
-Says (Some found) (Replay stop workers lazy) =
-    (found.0 ≡ codes "replay") × IsNumberGiven (codes "stop") 1 LATEST found.1 stop
-    × IsNumberOr (codes "workers") 1 MOST_WORKERS 1 found.1 workers × Sets (codes "lazy") found.1 lazy
+Says (Some found) (Seq report) = (found.0 ≡ codes "seq") × SaysReport found.1 report
+Says (Some found) (Run asked) =
+    (found.0 ≡ codes "run") × SaysReport found.1 asked.report × IsNumberIfGiven (codes "workers") 1 MOST_WORKERS found.1 asked.workers
+    × IsNumberOr (codes "batch") 1 MOST_BATCH 64 found.1 asked.batch × Sets (codes "lazy") found.1 (is_lazy asked.cancel)
+    × Sets (codes "blocks") found.1 asked.blocks × Sets (codes "rotate") found.1 asked.rotate
+Says (Some found) (Trail trail) =
+    (found.0 ≡ codes "trail") × IsNumberGiven (codes "router") 0 (MOST_ROUTERS - 1) found.1 trail.router
+    × IsNumberGiven (codes "stop") 1 LATEST found.1 trail.stop × IsNumberGiven (codes "keep") 0 LATEST found.1 trail.keep
+Says (Some found) (Replay machine) =
+    (found.0 ≡ codes "replay") × IsNumberGiven (codes "stop") 1 LATEST found.1 machine.stop
+    × IsNumberOr (codes "workers") 1 MOST_WORKERS 1 found.1 machine.workers × Sets (codes "lazy") found.1 (is_lazy machine.cancel)
 Says (Some found) Upgrade = found.0 ≡ codes "upgrade"

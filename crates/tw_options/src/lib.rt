@@ -27,8 +27,8 @@ mod number;
 mod page;
 
 use command::twarp;
-pub use command_line::CommandLine;
 use command_line::command_line_of;
+pub use command_line::{Asked, CommandLine, Machine, Report, Trail};
 pub use fault::CommandLineFault;
 pub use number::NumberOption;
 pub use page::Page;

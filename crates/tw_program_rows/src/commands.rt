@@ -11,8 +11,9 @@ use std::thread::Threads;
 use std::time::Clock;
 use tw_commands::{Cause, Progress, Stages, Status, count_committed};
 use tw_model::Outcome;
+use tw_rows::reports::TO_20;
 use tw_rows::texts::DISAGREE;
-use tw_run::{Asked, Dealing, Gate, Seat, Tally, run_io};
+use tw_run::{Asked, Gate, Report, Seat, Tally, run_io};
 use tw_sim::Cancel;
 
 /// What is told of a run.
@@ -80,16 +81,12 @@ fn run_by_two<X: Threads + Wait + Sync + Clock>(
 {
     let mut tape = Tape::new(DISAGREE.as_bytes(), usize::MAX);
     let asked = Asked {
-        stop: 20,
-        every: None,
-        log: true,
+        report: Report { log: true, ..TO_20 },
         workers: Some(2),
         batch: 64,
         cancel: Cancel::Aggressive,
-        dealing: Dealing {
-            blocks: false,
-            rotate: false,
-        },
+        blocks: false,
+        rotate: false,
     };
     run_io(rt, alloc, &mut tape, page, asked, told)
 }

@@ -5,7 +5,8 @@ ghost use Rattle.std.specs.Prelude.{◌≡◌, false};
 use crate::devices::{AMPLE, Endless, ShortPage, Tape};
 use crate::texts::{DISAGREE_LOG, DISAGREE_UPGRADED};
 use std::alloc::Global;
-use tw_commands::{Cause, Status, Untold, check_io, seq_io, upgrade_io};
+use tw_commands::{Cause, Report, Status, Untold, check_io, seq_io, upgrade_io};
+use tw_rows::reports::TO_20;
 use tw_rows::texts::{ALONE, DISAGREE};
 
 /// A program, with its options.
@@ -28,7 +29,15 @@ fn run(
 {
     match asked {
         Asked::Check => check_io(alloc, tape, page),
-        Asked::Seq { stop } => seq_io(alloc, tape, page, u64::from(stop), None, true, &Untold),
+        Asked::Seq { stop } => {
+            let stop = u64::from(stop);
+            let logged = Report {
+                stop,
+                log: true,
+                ..TO_20
+            };
+            seq_io(alloc, tape, page, logged, &Untold)
+        }
         Asked::Upgrade => upgrade_io(alloc, tape, page),
     }
 }

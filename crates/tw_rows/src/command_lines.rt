@@ -1,8 +1,10 @@
 //! Command lines, and what they ask for. Those that are refused are in `checks/program_rows.py`.
 
 use crate::made::again;
+use crate::reports::TO_20;
 use std::alloc::Global;
-use tw_options::{CommandLine, CommandLineFault, options};
+use tw_options::{Asked, CommandLine, CommandLineFault, Machine, Report, Trail, options};
+use tw_sim::Cancel::{Aggressive, Lazy};
 
 /// What the words of a text ask for.
 fn asked(alloc: Global, text: &str) -> Result<CommandLine, CommandLineFault> {
@@ -18,30 +20,23 @@ fn asks_for(alloc: Global, text: &str, line: CommandLine) -> bool {
 /// Whether a trail has the greatest numbers that it may be given.
 fn trails_by_its_numbers(alloc: Global) -> bool {
     let text = "twarp trail --router 1023 --stop 1000000000 --keep 0";
-    let line = CommandLine::Trail {
+    let line = CommandLine::Trail(Trail {
         router: 1023,
         stop: 1_000_000_000,
         keep: 0,
-    };
+    });
     asks_for(alloc, text, line)
 }
 
 /// Whether a run by one thread is logged and has checkpoints where it is asked to, and not else.
 fn runs_by_its_numbers(alloc: Global) -> bool {
-    let logged = CommandLine::Seq {
-        stop: 20,
-        every: None,
-        log: true,
-        progress: false,
-        stats: false,
-    };
-    let every_second = CommandLine::Seq {
-        stop: 20,
+    let logged = CommandLine::Seq(Report { log: true, ..TO_20 });
+    let every_second = CommandLine::Seq(Report {
         every: Some(2),
-        log: false,
         progress: true,
         stats: true,
-    };
+        ..TO_20
+    });
     let text = "twarp seq --progress --stop 20 --stats --every 2";
     asks_for(alloc, "twarp seq --log --stop 20", logged) && asks_for(alloc, text, every_second)
 }
@@ -55,22 +50,22 @@ fn the_numbers_given_are_those_asked_for(rt: HostRuntime) {
 #[test]
 fn a_replay_has_one_worker_where_no_number_is_given(rt: HostRuntime) {
     let rows = [
-        ("twarp replay --stop 20", 20, 1, false),
-        ("twarp replay --workers 3 --stop 1", 1, 3, false),
-        ("twarp replay --lazy --stop 20", 20, 1, true),
+        ("twarp replay --stop 20", 20, 1, Aggressive),
+        ("twarp replay --workers 3 --stop 1", 1, 3, Aggressive),
+        ("twarp replay --lazy --stop 20", 20, 1, Lazy),
         (
             "twarp replay --stop 1000000000 --workers 64",
             1_000_000_000,
             64,
-            false,
+            Aggressive,
         ),
     ];
-    for (text, stop, workers, lazy) in rows {
-        let line = CommandLine::Replay {
+    for (text, stop, workers, cancel) in rows {
+        let line = CommandLine::Replay(Machine {
             stop,
             workers,
-            lazy,
-        };
+            cancel,
+        });
         assert!(rt; asks_for(rt.alloc(), text, line), "{text}");
     }
 }
@@ -78,18 +73,14 @@ fn a_replay_has_one_worker_where_no_number_is_given(rt: HostRuntime) {
 /// Whether a run to a stop is by as many workers as the program chooses, with a batch of sixty-four, and neither log nor
 /// checkpoints, takes back at once, and deals its routers out in turn, for good.
 fn chooses_its_workers(alloc: Global) -> bool {
-    let line = CommandLine::Run {
-        stop: 20,
-        every: None,
-        log: false,
+    let line = CommandLine::Run(Asked {
+        report: TO_20,
         workers: None,
         batch: 64,
-        lazy: false,
+        cancel: Aggressive,
         blocks: false,
         rotate: false,
-        progress: false,
-        stats: false,
-    };
+    });
     asks_for(alloc, "twarp run --stop 20", line)
 }
 
@@ -98,18 +89,21 @@ fn runs_with_all_that_it_may_be_given(alloc: Global) -> bool {
     let text = "\
         twarp run --log --lazy --blocks --rotate --progress --stats --batch 4096 --workers 64 \
         --every 2 --stop 1000000000";
-    let line = CommandLine::Run {
+    let report = Report {
         stop: 1_000_000_000,
         every: Some(2),
         log: true,
-        workers: Some(64),
-        batch: 4096,
-        lazy: true,
-        blocks: true,
-        rotate: true,
         progress: true,
         stats: true,
     };
+    let line = CommandLine::Run(Asked {
+        report,
+        workers: Some(64),
+        batch: 4096,
+        cancel: Lazy,
+        blocks: true,
+        rotate: true,
+    });
     asks_for(alloc, text, line)
 }
 

@@ -27,4 +27,5 @@ pub mod made;
 mod pending;
 #[cfg(test)]
 mod readings;
+pub mod reports;
 pub mod texts;

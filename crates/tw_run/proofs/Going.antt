@@ -7,20 +7,19 @@ use Rattle.tw_handlers.specs.declared.fault.CounterFull.{CounterFull as AFullCou
 use Rattle.tw_model.specs.Case.{Case}
 use Rattle.tw_model.specs.declared.memory.OrMemory.{OrMemory}
 use Rattle.tw_model.specs.declared.memory.OrMemory.TheVariants as or_memory
+use Rattle.tw_options.specs.declared.command_line.Asked.{Asked as AnAsked}
 use Rattle.tw_parallel.proofs.Rounds.{goes_on_both}
 use Rattle.tw_parallel.specs.Settled.{IsSettled}
 use Rattle.tw_parallel.specs.Sim.{GoesOn, HasSameOwners, Sim, cancels_of}
 use Rattle.tw_run.proofs.Dealt.{dealt_out, goes_on_same, still_dealt}
 use Rattle.tw_run.specs.Dealing.{AreDealtAs, owners_after}
 use Rattle.tw_run.specs.Ran.{HasCome, HasComeTo, HasStoppedBy, HaveComeAsChosen, IsBy, IsLeftBy, IsRunBy, IsRunByAny, MayStop}
-use Rattle.tw_run.specs.declared.dealing.Dealing.{Dealing as ADealing}
 use Rattle.tw_run.specs.declared.ran.By.{By}
 use Rattle.tw_run.specs.declared.ran.By.TheVariants as by
 use Rattle.tw_pace.specs.declared.pace.TheConstants.{MOST_WORKERS_CHOSEN}
 use Rattle.tw_run.specs.Stopped.{HasStopped, TellsEnd, stopped_alone}
 use Rattle.tw_run.specs.declared.cause.Stopped.{Stopped}
 use Rattle.tw_run.specs.declared.cause.Stopped.TheVariants.{Memory, NoThread, Full}
-use Rattle.tw_run.specs.declared.run.Asked.{Asked as AnAsked}
 use Rattle.tw_seq.specs.Run.{GetsStuck}
 use Rattle.tw_threads.specs.Left.{IsFullAhead}
 use Rattle.tw_threads.specs.declared.end_cause.EndCause.{EndCause}
@@ -50,9 +49,9 @@ stopped_by case asked n s NoThread by h = tt
 stopped_by case asked n s (Full t) by h = record { by = by_later case asked n s t by h.0; full = h.1 }
 
 -- their routers stay dealt out
-pub dealt_later : (d : ADealing) (k : ℕ) (s : Sim) (result : Result Sim (Stopped Sim)) → AreDealtAs d k s → IfOk result (λ t. GoesOn s t) → IfOk result (λ t. HasSameOwners s t) → IfOk result (λ t. AreDealtAs d k t)
-dealt_later d k s (Ok t) dealt on same = still_dealt d k s t dealt on same
-dealt_later d k s (Err why) dealt on same = tt
+pub dealt_later : (asked : AnAsked) (k : ℕ) (s : Sim) (result : Result Sim (Stopped Sim)) → AreDealtAs asked k s → IfOk result (λ t. GoesOn s t) → IfOk result (λ t. HasSameOwners s t) → IfOk result (λ t. AreDealtAs asked k t)
+dealt_later asked k s (Ok t) dealt on same = still_dealt asked k s t dealt on same
+dealt_later asked k s (Err why) dealt on same = tt
 
 -- so these workers ran the case
 pub run_by_left : (case : Case) (asked : AnAsked) (n : ℕ) (s : Sim) (by : By) → IsLeftBy s by → HasCome case asked n s → IsRunBy case asked n by
@@ -67,14 +66,14 @@ any_left case asked s (by.Workers t) left come = subst (HaveComeAsChosen case as
 any_left case asked s (by.OneThreadAfter t) left come = absurd left
 
 -- what stops one thread stops a run
-pub alone_stops : (case : Case) (asked : AnAsked) (fault : OrMemory AFullCounter) → (fault ≡ or_memory.Fault counter_full → GetsStuck case asked.stop) → MayStop case asked (stopped_alone fault)
+pub alone_stops : (case : Case) (asked : AnAsked) (fault : OrMemory AFullCounter) → (fault ≡ or_memory.Fault counter_full → GetsStuck case asked.report.stop) → MayStop case asked (stopped_alone fault)
 alone_stops case asked (or_memory.Fault full) stuck = stuck refl
 alone_stops case asked or_memory.Memory stuck = tt
 
 -- ---- workers that are chosen
 
 -- they have come to a later time
-pub come_later : (time : ℕ) (case : Case) (asked : AnAsked) (s t : Sim) → HasComeTo s.board.stop case asked s → GoesOn s t → IsSettled t → t.board.stop ≡ time → AreDealtAs asked.dealing 0 t
+pub come_later : (time : ℕ) (case : Case) (asked : AnAsked) (s t : Sim) → HasComeTo s.board.stop case asked s → GoesOn s t → IsSettled t → t.board.stop ≡ time → AreDealtAs asked 0 t
     → HasComeTo time case asked t
 come_later time case asked s t come on settled stop dealt =
     let many = on.workers in
@@ -88,13 +87,13 @@ come_later time case asked s t come on settled stop dealt =
     }
 
 -- and to the stop
-pub come_to_stop : (time : ℕ) (case : Case) (asked : AnAsked) (s : Sim) → time ≤ asked.stop → asked.stop ≤ time → asked.log ≡ false → HasComeTo time case asked s → HaveComeAsChosen case asked s
+pub come_to_stop : (time : ℕ) (case : Case) (asked : AnAsked) (s : Sim) → time ≤ asked.report.stop → asked.report.stop ≤ time → asked.report.log ≡ false → HasComeTo time case asked s → HaveComeAsChosen case asked s
 come_to_stop time case asked s early late log come = (
   come.few,
   record {
     by = come.by;
     settled = come.settled;
-    stop = come.stop ∙ (let same : time ≡ asked.stop = omega (arith, early, late) in same);
+    stop = come.stop ∙ (let same : time ≡ asked.report.stop = omega (arith, early, late) in same);
     dealt = (0, come.dealt);
     retains = λ logged. absurd (true≢false (sym logged ∙ log));
   },
@@ -102,12 +101,12 @@ come_to_stop time case asked s early late log come = (
 
 -- as they begin
 pub come_begun : (case : Case) (asked : AnAsked) (s : Sim) (n time : ℕ) (list : List ℕ) → 0 < n → n ≤ MOST_WORKERS_CHOSEN → s.case ≡ case → workers s.board ≡ n → cancels_of s ≡ replicate n asked.cancel → IsSettled s → s.board.stop ≡ time
-    → list ≡ owners_after asked.dealing n case.net.nodes 0 → ((r : ℕ) → r < s.case.net.nodes → slice_get list r ≡ Some (who s.board r)) → HasComeTo time case asked s
+    → list ≡ owners_after asked n case.net.nodes 0 → ((r : ℕ) → r < s.case.net.nodes → slice_get list r ≡ Some (who s.board r)) → HasComeTo time case asked s
 come_begun case asked s n time list some few is many cancels settled stop dealt owners = record {
   some = omega (arith, some, many);
   few = omega (arith, few, many);
   by = record { of_case = is; workers = refl; cancels = cancels ∙ (λ i. replicate (sym many i) asked.cancel) };
   settled = settled;
   stop = stop;
-  dealt = dealt_out asked.dealing 0 s s list (goes_on_same s) (dealt ∙ (λ i. owners_after asked.dealing (sym many i) (sym is i).net.nodes 0)) owners;
+  dealt = dealt_out asked 0 s s list (goes_on_same s) (dealt ∙ (λ i. owners_after asked (sym many i) (sym is i).net.nodes 0)) owners;
 }

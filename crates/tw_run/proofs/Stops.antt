@@ -8,18 +8,18 @@ use Rattle.tw_commands.specs.ForCase.{StuckFor, for_case}
 use Rattle.tw_commands.specs.Output.{Leaves, Output}
 use Rattle.tw_handlers.specs.declared.fault.CounterFull.{CounterFull as AFullCounter}
 use Rattle.tw_model.specs.Case.{Case}
+use Rattle.tw_options.specs.declared.command_line.Asked.{Asked as AnAsked}
 use Rattle.tw_run.specs.Ran.{MayStop}
 use Rattle.tw_run.specs.Stopped.{cause_of}
 use Rattle.tw_run.specs.Threaded.{LacksThread, LeavesThreaded, LeavesThreadedFor}
 use Rattle.tw_run.specs.declared.cause.Stopped.{Stopped}
 use Rattle.tw_run.specs.declared.cause.Stopped.TheVariants.{Memory, NoThread, Full}
-use Rattle.tw_run.specs.declared.run.Asked.{Asked as AnAsked}
 use Rattle.tw_seq.specs.Run.{GetsStuck}
 use Rattle.tw_text.specs.Reading.{case_of}
 use Rattle.tw_text.specs.declared.text_fault.TextFault.{TextFault}
 
 pub leaves_told : (why : Stopped AFullCounter) (case : Case) (asked : AnAsked) (output : Output) (old : Option (List ℕ)) (failed : Bool) → failed ≡ false
-    → MayStop case asked why → LeavesThreaded (Err (cause_of why)) output (GetsStuck case asked.stop) old old failed
+    → MayStop case asked why → LeavesThreaded (Err (cause_of why)) output (GetsStuck case asked.report.stop) old old failed
 leaves_told Memory case asked output old failed still may = inl (record { nothing = Keeps-refl old; still = still })
 leaves_told NoThread case asked output old failed still may = inr (record { no_thread = refl; sink = record { nothing = Keeps-refl old; still = still } })
 leaves_told (Full full) case asked output old failed still may = inl (may, record { nothing = Keeps-refl old; still = still })

@@ -5,6 +5,7 @@ use Rattle.tw_exchange.specs.Board.{workers}
 use Rattle.tw_handlers.specs.declared.fault.CounterFull.{CounterFull as AFullCounter}
 use Rattle.tw_model.specs.Case.{Case}
 use Rattle.tw_model.specs.Summary.{summary_of}
+use Rattle.tw_options.specs.declared.command_line.Asked.{Asked as AnAsked}
 use Rattle.tw_parallel.specs.Settled.{IsSettled}
 use Rattle.tw_parallel.specs.Sim.{RetainsEvents, Sim, cancels_of}
 use Rattle.tw_run.specs.Dealing.{AreDealtAs}
@@ -18,15 +19,14 @@ use Rattle.tw_run.specs.declared.ran.By.{By}
 use Rattle.tw_run.specs.declared.ran.By.TheVariants.{OneThread, Workers, OneThreadAfter}
 use Rattle.tw_run.specs.declared.ran.Ran.{Ran as ARun}
 use Rattle.tw_pace.specs.declared.pace.TheConstants.{MOST_WORKERS_CHOSEN}
-use Rattle.tw_run.specs.declared.run.Asked.{Asked as AnAsked}
 use Rattle.tw_seq.specs.Outcome.{outcome_of}
 use Rattle.tw_seq.specs.Run.{GetsStuck, complete_run}
 use Rattle.tw_threads.specs.Left.{IsFullAhead}
 
 -- it leaves what the sequential run of the case leaves at the stop that was asked for
 pub record IsRunOf (case : Case) (asked : AnAsked) (ran : ARun) : Type 0 where
-  pub outcome : summary_of ran.outcome ≡ shown asked.log (outcome_of (complete_run case asked.stop))
-  pub found : ran.found ≡ found_to case asked.stop asked.every
+  pub outcome : summary_of ran.outcome ≡ shown asked.report.log (outcome_of (complete_run case asked.report.stop))
+  pub found : ran.found ≡ found_to case asked.report.stop asked.report.every
 
 -- a run of the case by n workers, which take back what undone events have sent when it was asked for
 pub record IsBy (case : Case) (asked : AnAsked) (n : ℕ) (s : Sim) : Type 0 where
@@ -38,10 +38,10 @@ pub record IsBy (case : Case) (asked : AnAsked) (n : ℕ) (s : Sim) : Type 0 whe
 pub record HasCome (case : Case) (asked : AnAsked) (n : ℕ) (s : Sim) : Type 0 where
   pub by : IsBy case asked n s
   pub settled : IsSettled s
-  pub stop : s.board.stop ≡ asked.stop
-  pub dealt : (checkpoints : ℕ) × AreDealtAs asked.dealing checkpoints s
+  pub stop : s.board.stop ≡ asked.report.stop
+  pub dealt : (checkpoints : ℕ) × AreDealtAs asked checkpoints s
   -- with the events where these are to be logged
-  pub retains : asked.log ≡ true → RetainsEvents s
+  pub retains : asked.report.log ≡ true → RetainsEvents s
 
 -- or to a time, as many as may be chosen
 pub record HasComeTo (time : ℕ) (case : Case) (asked : AnAsked) (s : Sim) : Type 0 where
@@ -50,7 +50,7 @@ pub record HasComeTo (time : ℕ) (case : Case) (asked : AnAsked) (s : Sim) : Ty
   pub by : IsBy case asked (workers s.board) s
   pub settled : IsSettled s
   pub stop : s.board.stop ≡ time
-  pub dealt : AreDealtAs asked.dealing 0 s
+  pub dealt : AreDealtAs asked 0 s
 
 -- or one of which met a full counter
 pub record HasMetFull (case : Case) (asked : AnAsked) (n : ℕ) (s : Sim) : Type 0 where
@@ -75,14 +75,14 @@ HaveComeAsChosen case asked s = (workers s.board ≤ MOST_WORKERS_CHOSEN) × Has
 
 -- one thread has come to the stop, or as many workers as may be chosen; or workers have ended before
 abbrev pub IsComeTo : Case → AnAsked → Come → Type 0
-IsComeTo case asked (come.Alone run) = run.run ≡ complete_run case asked.stop
+IsComeTo case asked (come.Alone run) = run.run ≡ complete_run case asked.report.stop
 IsComeTo case asked (come.ByAll s) = HaveComeAsChosen case asked s
 IsComeTo case asked come.Ended = Unit {0}
 
 -- workers that took over at a time have come to the stop; or one thread took over from them, not before that time; or they have ended
 abbrev pub IsTried : Case → AnAsked → ℕ → Tried → Type 0
 IsTried case asked time (tried.Come s) = HaveComeAsChosen case asked s
-IsTried case asked time (tried.Over run alone) = (run.run ≡ complete_run case alone.ticks) × (time ≤ alone.ticks) × (alone.ticks ≤ asked.stop)
+IsTried case asked time (tried.Over run alone) = (run.run ≡ complete_run case alone.ticks) × (time ≤ alone.ticks) × (alone.ticks ≤ asked.report.stop)
 IsTried case asked time tried.Ended = Unit {0}
 
 -- one thread ran to the stop, or as many workers as may be chosen
@@ -109,4 +109,4 @@ HasStoppedBy case asked n (Full s) = HasMetFull case asked n s
 abbrev pub MayStop : Case → AnAsked → Stopped AFullCounter → Type 0
 MayStop case asked Memory = Unit {0}
 MayStop case asked NoThread = (n : ℕ) × (1 < n) × (asked.workers ≡ Some n)
-MayStop case asked (Full full) = GetsStuck case asked.stop
+MayStop case asked (Full full) = GetsStuck case asked.report.stop

@@ -9,7 +9,6 @@ ghost use Rattle.tw_run.specs.Ran.{HasComeTo, IsComeTo, IsTried};
 ghost use Rattle.tw_seq.specs.Run.{GetsStuck, complete_run};
 
 use crate::dealing::owners;
-use crate::run::Asked;
 use crate::segments::{handled_by, run_to};
 use std::alloc::Global;
 use std::sync::Wait;
@@ -18,6 +17,7 @@ use std::time::Clock;
 use tw_commands::{Progress, Stages};
 use tw_instance::Case;
 use tw_model::OrMemory;
+use tw_options::Asked;
 use tw_pace::{Alone, Course, MOST_WORKERS_CHOSEN};
 use tw_parallel::{Gate, Sim};
 use tw_seq::{CounterFull, Running, TracedRun};
@@ -74,20 +74,20 @@ pub(crate) fn run_to_stop<'a, X: Threads + Wait + Sync + Clock, O: Progress + St
     observer: &O,
 ) -> Result<Come<'a>, OrMemory<CounterFull>>
     requires ready { IsReady asked }
-    requires log { asked.log ≡ false }
+    requires log { asked.report.log ≡ false }
     ensures come { IfOk result (λ come. IsComeTo case.now asked come) }
-    ensures full { IsErrOf result (or_memory.Fault counter_full) → GetsStuck case.now asked.stop }
+    ensures full { IsErrOf result (or_memory.Fault counter_full) → GetsStuck case.now asked.report.stop }
 {
     let mut run = TracedRun::new(alloc, case, false)?;
     let mut alone = Alone::new();
     let mut teller = Teller {
         observer,
-        stop: asked.stop,
+        stop: asked.report.stop,
         due: 0,
     };
-    while alone.ticks < asked.stop {
-        alone = go_on_alone(rt, &mut run, asked.stop, alone, &mut teller)?;
-        if alone.ticks < asked.stop {
+    while alone.ticks < asked.report.stop {
+        alone = go_on_alone(rt, &mut run, asked.report.stop, alone, &mut teller)?;
+        if alone.ticks < asked.report.stop {
             match try_all(rt, alloc, run, asked, alone, &mut teller) {
                 Tried::Come(sim) => return Ok(Come::ByAll(sim)),
                 Tried::Over(later, from) => {
@@ -98,8 +98,8 @@ pub(crate) fn run_to_stop<'a, X: Threads + Wait + Sync + Clock, O: Progress + St
             }
         }
     }
-    run.run_to(asked.stop)?;
-    teller.tell(asked.stop, run.count_events());
+    run.run_to(asked.report.stop)?;
+    teller.tell(asked.report.stop, run.count_events());
     Ok(Come::Alone(run))
 }
 
@@ -159,9 +159,9 @@ fn try_all<'a, X: Threads + Wait + Sync + Clock, O: Progress + Stages + Gate + S
     teller: &mut Teller<'_, O>,
 ) -> Tried<'a>
     requires ready { IsReady asked }
-    requires log { asked.log ≡ false }
+    requires log { asked.report.log ≡ false }
     requires complete { run.run ≡ complete_run run.run.case alone.ticks }
-    requires within { alone.ticks ≤ asked.stop }
+    requires within { alone.ticks ≤ asked.report.stop }
     ensures { IsTried run.entry.run.case asked alone.ticks result }
 {
     let start = micros(rt);
@@ -180,14 +180,14 @@ fn try_all<'a, X: Threads + Wait + Sync + Clock, O: Progress + Stages + Gate + S
 
 /// Several workers take over a run on one thread, if there is memory for that.
 fn open_all<'a>(alloc: Global, run: TracedRun<'a>, asked: Asked) -> Result<Sim<'a>, TracedRun<'a>>
-    requires log { asked.log ≡ false }
+    requires log { asked.report.log ≡ false }
     requires complete { run.run ≡ complete_run run.run.case run.run.stop }
     ensures ok { IfOk result (λ sim. HasComeTo run.entry.run.stop run.entry.run.case asked sim) }
     ensures err { IfErr result (λ same. same ≡ run.entry) }
 {
     let nodes = run.run().case().instance().nodes();
     let workers = nodes.clamp(1, MOST_WORKERS_CHOSEN);
-    let Ok(owners) = owners(alloc, asked.dealing, workers, nodes, 0) else {
+    let Ok(owners) = owners(alloc, asked, workers, nodes, 0) else {
         return Err(run);
     };
     match Sim::of_run(alloc, run, workers, &owners, asked.cancel) {
@@ -206,14 +206,14 @@ fn go_on_by_all<'a, X: Threads + Wait + Sync + Clock, O: Progress + Stages + Gat
     teller: &mut Teller<'_, O>,
 ) -> Tried<'a>
     requires ready { IsReady asked }
-    requires log { asked.log ≡ false }
+    requires log { asked.report.log ≡ false }
     requires come { HasComeTo course.ticks sim.case asked sim }
-    requires within { course.ticks ≤ asked.stop }
+    requires within { course.ticks ≤ asked.report.stop }
     ensures { IsTried sim.entry.case asked course.ticks result }
 {
     let mut course = course;
     let mut run = sim;
-    while let Some(end) = course.next_end(asked.stop) {
+    while let Some(end) = course.next_end(asked.report.stop) {
         if course.is_over() {
             let start = micros(rt);
             match run.into_run() {

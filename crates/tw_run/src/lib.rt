@@ -16,9 +16,9 @@ mod ran;
 mod run;
 mod segments;
 
-pub use dealing::Dealing;
-pub use run::{Asked, run_io};
+pub use run::run_io;
 pub use tw_commands::{Cause, Stages, Status};
+pub use tw_options::{Asked, Report};
 pub use tw_parallel::Gate;
 pub use tw_shard::Tally;
 pub use tw_table::Seat;

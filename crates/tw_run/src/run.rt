@@ -13,7 +13,7 @@ ghost use Rattle.tw_seq.specs.Run.{GetsStuck, complete_run};
 
 use crate::cause::Stopped;
 use crate::chosen::{Come, run_to_stop};
-use crate::dealing::{Dealing, open_dealt};
+use crate::dealing::open_dealt;
 use crate::ran::{By, Ran, left_by};
 use crate::segments::{handled_by, run_through};
 use std::alloc::{AllocError, Global};
@@ -25,31 +25,12 @@ use tw_commands::{Cause, Progress, Stages, Status, hand_back, refuse, run_on_one
 use tw_device::{Sink, Source, read_all};
 use tw_instance::Case;
 use tw_model::OrMemory;
+use tw_options::Asked;
 use tw_parallel::{Gate, Sim};
 use tw_report::write_report;
 use tw_seq::{CounterFull, TracedRun};
 use tw_shape::Verdict;
-use tw_sim::Cancel;
 use tw_text::read_case;
-
-/// The options of `run`.
-#[derive(Clone, Copy, Debug)]
-pub struct Asked {
-    /// The time up to which the case runs, in ticks, at most 1,000,000,000.
-    pub stop: u64,
-    /// The ticks between two checkpoints, 1 to 1,000,000,000, where there are any.
-    pub every: Option<u64>,
-    /// Whether the events are written too.
-    pub log: bool,
-    /// How many workers run the case, where that is told, one at least.
-    pub workers: Option<u32>,
-    /// How many events a worker handles at most between two meetings.
-    pub batch: u32,
-    /// When what an undone event has sent is taken back.
-    pub cancel: Cancel,
-    /// Which worker has which router.
-    pub dealing: Dealing,
-}
 
 /// Reads a case, runs it to the stop, and writes what `seq_io` writes: the report of the one-thread run, or
 /// where and why the text is refused.
@@ -76,7 +57,7 @@ pub fn run_io<
     requires source { R.failed source.old ≡ false }
     requires sink { W.failed sink.old ≡ false }
     requires ready { IsReady asked }
-    ensures answer { AnswersThreaded result (seq_output asked.stop asked.every asked.log) (GetsStuckFor asked.stop)
+    ensures answer { AnswersThreaded result (seq_output asked.report) (GetsStuckFor asked.report.stop)
         (R.remaining source.old) (W.written sink.old) (W.written sink.new) (R.failed source.new) (W.failed sink.new) }
     ensures read { OnOk result (LosesInput (R.remaining source.old) (R.remaining source.new)) }
     ensures most { TakesInput (R.remaining source.old) (R.remaining source.new) }
@@ -97,7 +78,7 @@ fn answer_text<X: Threads + Wait + Sync + Clock, W: Sink, O: Progress + Stages +
 ) -> Result<Status, Cause>
     requires open { W.failed sink.old ≡ false }
     requires ready { IsReady asked }
-    ensures { LeavesThreadedFor text.now result (seq_output asked.stop asked.every asked.log text.now) (GetsStuckFor asked.stop text.now)
+    ensures { LeavesThreadedFor text.now result (seq_output asked.report text.now) (GetsStuckFor asked.report.stop text.now)
         (W.written sink.old) (W.written sink.new) (W.failed sink.new) }
 {
     match read_case(alloc, text) {
@@ -118,7 +99,7 @@ fn answer_case<X: Threads + Wait + Sync + Clock, W: Sink, O: Progress + Stages +
 ) -> Result<Status, Cause>
     requires open { W.failed sink.old ≡ false }
     requires ready { IsReady asked }
-    ensures { LeavesThreaded result (seq_report asked.stop asked.every asked.log case.now) (GetsStuck case.now asked.stop)
+    ensures { LeavesThreaded result (seq_report asked.report case.now) (GetsStuck case.now asked.report.stop)
         (W.written sink.old) (W.written sink.new) (W.failed sink.new) }
 {
     observer.has_read();
@@ -127,7 +108,8 @@ fn answer_case<X: Threads + Wait + Sync + Clock, W: Sink, O: Progress + Stages +
     let ran = ended?;
     observer.has_run(&ran.outcome);
     let verdict = Verdict::of(&ran.outcome, ran.found);
-    write_report(sink, case.instance(), &ran.outcome, verdict, asked.log)?;
+    let log = asked.report.log;
+    write_report(sink, case.instance(), &ran.outcome, verdict, log)?;
     Ok(Status::Done)
 }
 
@@ -165,14 +147,14 @@ fn run_chosen<'a, X: Threads + Wait + Sync + Clock, O: Progress + Stages + Gate 
     requires ready { IsReady asked }
     ensures ran { IfOk result (λ ran. IsRunOf case.now asked ran) }
     ensures by { IfOk result (λ ran. IsRunByAny case.now asked ran.by) }
-    ensures full { IsErrOf result (or_memory.Fault counter_full) → GetsStuck case.now asked.stop }
+    ensures full { IsErrOf result (or_memory.Fault counter_full) → GetsStuck case.now asked.report.stop }
 {
-    if asked.every.is_some() || asked.log {
+    if asked.report.every.is_some() || asked.report.log {
         return run_alone(alloc, case, asked, observer);
     }
     match run_to_stop(rt, alloc, case, asked, observer)? {
         Come::Alone(run) => Ok(left_at_stop(case, asked, &run)?),
-        Come::ByAll(sim) => Ok(left_by(sim, None, asked.log)?),
+        Come::ByAll(sim) => Ok(left_by(sim, None, asked.report.log)?),
         Come::Ended => {
             observer.begins_anew();
             run_alone(alloc, case, asked, observer)
@@ -183,9 +165,9 @@ fn run_chosen<'a, X: Threads + Wait + Sync + Clock, O: Progress + Stages + Gate 
 /// What a run of the case on one thread leaves that has come to the stop. Its events are not listed, and nothing was
 /// found on the way.
 fn left_at_stop<'a>(case: &Case, asked: Asked, run: &TracedRun<'_>) -> Result<Ran<'a>, AllocError>
-    requires complete { run.now.run ≡ complete_run case.now asked.stop }
-    requires log { asked.log ≡ false }
-    requires every { asked.every ≡ None }
+    requires complete { run.now.run ≡ complete_run case.now asked.report.stop }
+    requires log { asked.report.log ≡ false }
+    requires every { asked.report.every ≡ None }
     ensures ran { IfOk result (λ ran. IsRunOf case.now asked ran) }
     ensures by { IfOk result (λ ran. ran.by ≡ by.OneThread) }
 {
@@ -210,7 +192,7 @@ fn run_by_all<'a, X: Threads + Wait + Sync, O: Progress + Stages + Gate + Sync>(
     requires some { 0 < workers }
     ensures ran { IfOk result (λ ran. IsRunOf case.now asked ran) }
     ensures by { IfOk result (λ ran. IsRunBy case.now asked workers ran.by) }
-    ensures full { IsErrOf result (stopped.Full counter_full) → GetsStuck case.now asked.stop }
+    ensures full { IsErrOf result (stopped.Full counter_full) → GetsStuck case.now asked.report.stop }
 {
     match run_by_workers(rt, alloc, case, asked, workers, observer) {
         Ok(ran) => Ok(ran),
@@ -237,8 +219,8 @@ fn run_by_workers<'a, X: Threads + Wait + Sync, O: Progress + Stages + Gate + Sy
 {
     let sim = open_dealt(alloc, case, workers, asked)?;
     let (sim, found) = run_through(rt, alloc, sim, asked, observer)?;
-    let _ = observer.reached(asked.stop, asked.stop, handled_by(&sim));
-    Ok(left_by(sim, found, asked.log)?)
+    let _ = observer.reached(asked.report.stop, asked.report.stop, handled_by(&sim));
+    Ok(left_by(sim, found, asked.report.log)?)
 }
 
 /// Runs a case to the stop on one thread, where workers have met a full counter and stand so: they run ahead, and may
@@ -253,7 +235,7 @@ fn run_anew<'a, O: Progress + Stages>(
     requires ready { IsReady asked }
     ensures ran { IfOk result (λ ran. IsRunOf case.now asked ran) }
     ensures by { IfOk result (λ ran. HasRunAnew sim.entry ran.by) }
-    ensures full { IsErrOf result (or_memory.Fault counter_full) → GetsStuck case.now asked.stop }
+    ensures full { IsErrOf result (or_memory.Fault counter_full) → GetsStuck case.now asked.report.stop }
 {
     observer.begins_anew();
     let ran = run_alone(alloc, case, asked, observer)?;
@@ -273,17 +255,10 @@ fn run_alone<'a, O: Progress + Stages>(
     requires ready { IsReady asked }
     ensures ran { IfOk result (λ ran. IsRunOf case.now asked ran) }
     ensures by { IfOk result (λ ran. ran.by ≡ by.OneThread) }
-    ensures full { IsErrOf result (or_memory.Fault counter_full) → GetsStuck case.now asked.stop }
+    ensures full { IsErrOf result (or_memory.Fault counter_full) → GetsStuck case.now asked.report.stop }
 {
     observer.goes_alone();
-    let (outcome, found) = run_on_one_thread(
-        alloc,
-        case,
-        asked.stop,
-        asked.every,
-        asked.log,
-        observer,
-    )?;
+    let (outcome, found) = run_on_one_thread(alloc, case, asked.report, observer)?;
     Ok(Ran {
         outcome,
         found,

@@ -13,12 +13,12 @@ ghost use Rattle.tw_shape.specs.Verdict.{finding};
 
 use crate::cause::Stopped;
 use crate::dealing::deal;
-use crate::run::Asked;
 use std::alloc::{AllocError, Global};
 use std::sync::Wait;
 use std::thread::Threads;
 use tw_commands::{Progress, Stages};
-use tw_parallel::{Gate, NotSettled, Options, OrMemory, Sim, run_until};
+use tw_options::Asked;
+use tw_parallel::{Gate, NotSettled, OrMemory, Sim, run_until};
 use tw_shape::{Finding, Shape, Watch};
 
 /// The workers of a run, to all of whom its routers are dealt out, go on to a stop, in ticks, which is not before
@@ -41,7 +41,7 @@ fn run_on<'a, X: Threads + Wait + Sync, O: Stages + Gate + Sync>(
     ensures stopped { IfErr result (λ why. HasStopped sim.entry why) }
 {
     observer.goes_by_all(sim.workers());
-    match run_until(rt, sim, stop, Options { batch }, observer) {
+    match run_until(rt, sim, stop, batch, observer) {
         Ok(sim) => Ok(sim),
         Err(ended) => Err(Stopped::of(ended)),
     }
@@ -59,7 +59,7 @@ pub(crate) fn run_to<'a, X: Threads + Wait + Sync, O: Stages + Gate + Sync>(
     observer: &O,
 ) -> Result<Sim<'a>, Stopped<Sim<'a>>>
     requires some { 0 < workers sim.board }
-    requires dealt { asked.dealing.rotate ≡ false → AreDealtAs asked.dealing checkpoints sim }
+    requires dealt { asked.rotate ≡ false → AreDealtAs asked checkpoints sim }
     requires checkpoints { checkpoints ≤ LATEST }
     requires stop { sim.board.stop ≤ stop }
     requires latest { stop ≤ LATEST }
@@ -67,14 +67,14 @@ pub(crate) fn run_to<'a, X: Threads + Wait + Sync, O: Stages + Gate + Sync>(
     ensures sim { IfOk result (λ s. IsSim s) }
     ensures goes_on { IfOk result (λ s. GoesOn sim.entry s) }
     ensures stop { IfOk result (λ s. s.board.stop ≡ stop) }
-    ensures dealt { IfOk result (λ s. AreDealtAs asked.dealing checkpoints s) }
+    ensures dealt { IfOk result (λ s. AreDealtAs asked checkpoints s) }
     ensures stopped { IfErr result (λ why. HasStopped sim.entry why) }
 {
-    if !asked.dealing.rotate {
+    if !asked.rotate {
         return run_on(rt, sim, stop, asked.batch, observer);
     }
     let mut sim = sim;
-    deal(alloc, &mut sim, asked.dealing, checkpoints)?;
+    deal(alloc, &mut sim, asked, checkpoints)?;
     run_on(rt, sim, stop, asked.batch, observer)
 }
 
@@ -89,7 +89,7 @@ fn run_in_pieces<'a, X: Threads + Wait + Sync, O: Progress + Stages + Gate + Syn
     observer: &O,
 ) -> Result<Sim<'a>, Stopped<Sim<'a>>>
     requires some { 0 < workers sim.board }
-    requires dealt { asked.dealing.rotate ≡ false → AreDealtAs asked.dealing checkpoints sim }
+    requires dealt { asked.rotate ≡ false → AreDealtAs asked checkpoints sim }
     requires checkpoints { checkpoints ≤ LATEST }
     requires time { sim.board.stop ≤ time }
     requires latest { time ≤ LATEST }
@@ -97,11 +97,11 @@ fn run_in_pieces<'a, X: Threads + Wait + Sync, O: Progress + Stages + Gate + Syn
     ensures sim { IfOk result (λ s. IsSim s) }
     ensures goes_on { IfOk result (λ s. GoesOn sim.entry s) }
     ensures stop { IfOk result (λ s. s.board.stop ≡ time) }
-    ensures dealt { IfOk result (λ s. AreDealtAs asked.dealing checkpoints s) }
+    ensures dealt { IfOk result (λ s. AreDealtAs asked checkpoints s) }
     ensures stopped { IfErr result (λ why. HasStopped sim.entry why) }
 {
     let mut run = sim;
-    while let Some(end) = end_of_piece(&run, time, asked.stop, observer) {
+    while let Some(end) = end_of_piece(&run, time, asked.report.stop, observer) {
         run = run_to(rt, alloc, run, asked, checkpoints, end, observer)?;
     }
     run_to(rt, alloc, run, asked, checkpoints, time, observer)
@@ -135,20 +135,20 @@ pub(crate) fn run_through<'a, X: Threads + Wait + Sync, O: Progress + Stages + G
     observer: &O,
 ) -> Result<(Sim<'a>, Option<Finding>), Stopped<Sim<'a>>>
     requires some { 0 < workers sim.board }
-    requires dealt { AreDealtAs asked.dealing 0 sim }
+    requires dealt { AreDealtAs asked 0 sim }
     requires opening { sim.board.stop ≡ 0 }
     requires ready { IsReady asked }
     ensures settled { IfOk result (λ left. IsSettled left.0) }
     ensures goes_on { IfOk result (λ left. GoesOn sim.entry left.0) }
-    ensures stop { IfOk result (λ left. left.0.board.stop ≡ asked.stop) }
-    ensures dealt { IfOk result (λ left. (checkpoints : ℕ) × AreDealtAs asked.dealing checkpoints left.0) }
-    ensures found { IfOk result (λ left. left.1 ≡ found_to sim.entry.case asked.stop asked.every) }
+    ensures stop { IfOk result (λ left. left.0.board.stop ≡ asked.report.stop) }
+    ensures dealt { IfOk result (λ left. (checkpoints : ℕ) × AreDealtAs asked checkpoints left.0) }
+    ensures found { IfOk result (λ left. left.1 ≡ found_to sim.entry.case asked.report.stop asked.report.every) }
     ensures stopped { IfErr result (λ why. HasStopped sim.entry why) }
 {
-    match asked.every {
+    match asked.report.every {
         Some(every) => run_watched(rt, alloc, sim, asked, every, observer),
         None => {
-            let run = run_in_pieces(rt, alloc, sim, asked, 0, asked.stop, observer)?;
+            let run = run_in_pieces(rt, alloc, sim, asked, 0, asked.report.stop, observer)?;
             Ok((run, None))
         }
     }
@@ -169,20 +169,20 @@ fn run_watched<'a, X: Threads + Wait + Sync, O: Progress + Stages + Gate + Sync>
     observer: &O,
 ) -> Result<(Sim<'a>, Option<Finding>), Stopped<Sim<'a>>>
     requires workers { 0 < workers sim.board }
-    requires dealt { AreDealtAs asked.dealing 0 sim }
+    requires dealt { AreDealtAs asked 0 sim }
     requires opening { sim.board.stop ≡ 0 }
-    requires stop { asked.stop ≤ LATEST }
+    requires stop { asked.report.stop ≤ LATEST }
     requires some { 0 < every }
     requires most { every ≤ LATEST }
     ensures settled { IfOk result (λ left. IsSettled left.0) }
     ensures goes_on { IfOk result (λ left. GoesOn sim.entry left.0) }
-    ensures stop { IfOk result (λ left. left.0.board.stop ≡ asked.stop) }
-    ensures dealt { IfOk result (λ left. (checkpoints : ℕ) × AreDealtAs asked.dealing checkpoints left.0) }
-    ensures found { IfOk result (λ left. left.1 ≡ finding sim.entry.case every (asked.stop / every)) }
+    ensures stop { IfOk result (λ left. left.0.board.stop ≡ asked.report.stop) }
+    ensures dealt { IfOk result (λ left. (checkpoints : ℕ) × AreDealtAs asked checkpoints left.0) }
+    ensures found { IfOk result (λ left. left.1 ≡ finding sim.entry.case every (asked.report.stop / every)) }
     ensures stopped { IfErr result (λ why. HasStopped sim.entry why) }
 {
     let mut watch = Watch::new(alloc, every)?;
-    let last = asked.stop / every;
+    let last = asked.report.stop / every;
     let mut run = sim;
     let mut seen = 0;
     while seen < last && watch.finding().is_none() {
@@ -191,7 +191,7 @@ fn run_watched<'a, X: Threads + Wait + Sync, O: Progress + Stages + Gate + Sync>
         let shape = shape_of(&run)?;
         seen += watch.push(time, shape, last - seen);
     }
-    let run = run_in_pieces(rt, alloc, run, asked, seen, asked.stop, observer)?;
+    let run = run_in_pieces(rt, alloc, run, asked, seen, asked.report.stop, observer)?;
     Ok((run, watch.finding()))
 }
 

@@ -23,8 +23,12 @@ some_in id most default rows n some (inr h) = let low = h.low in omega arith
 pub runnable : (found : Option (Text × List Row)) (line : CommandLine) → Says found line → IsRunnable line
 runnable None line h = absurd h
 runnable (Some f) Check h = tt
-runnable (Some f) (Seq stop every log progress stats) h = (h.1.high, every_in _ f.1 every h.2)
-runnable (Some f) (Run stop every log workers batch lazy blocks rotate progress stats) h = (h.1.high, every_in _ f.1 every h.2, told_in _ _ f.1 workers h.4)
-runnable (Some f) (Trail router stop keep) h = h.2.high
-runnable (Some f) (Replay stop workers lazy) h = (h.1.high, some_in _ _ _ f.1 workers (omega arith) h.2)
+runnable (Some f) (Seq report) h = (h.1.stop.high, every_in _ f.1 report.every h.1.every)
+runnable (Some f) (Run asked) h = record {
+  stop = h.1.stop.high;
+  every = every_in _ f.1 asked.report.every h.1.every;
+  workers = told_in _ _ f.1 asked.workers h.2;
+}
+runnable (Some f) (Trail trail) h = h.2.high
+runnable (Some f) (Replay machine) h = (h.1.high, some_in _ _ _ f.1 machine.workers (omega arith) h.2)
 runnable (Some f) Upgrade h = tt

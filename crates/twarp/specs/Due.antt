@@ -1,5 +1,5 @@
 -- What is due for a command line (own).
-use Rattle.std.specs.Prelude.{ℕ, ◌≡◌, ◌<◌, ◌≤◌, ◌⊎◌, Bool, false, IfSome, List, Option, Result, Ok, Err, if◌then◌else◌}
+use Rattle.std.specs.Prelude.{ℕ, ◌≡◌, ◌<◌, ◌≤◌, ◌⊎◌, Bool, false, IfSome, List, Option, Result, Ok, Err}
 use Rattle.tw_commands.specs.declared.cause.Cause.{Cause}
 use Rattle.tw_commands.specs.declared.cause.Status.{Status}
 use Rattle.tw_commands.specs.declared.cause.Status.TheVariants.{Done, Refused}
@@ -12,30 +12,25 @@ use Rattle.tw_commands.specs.Upgrade.{upgrade_output}
 use Rattle.tw_model.specs.declared.limits.TheConstants.{LATEST}
 use Rattle.tw_options.specs.declared.command_line.CommandLine.{CommandLine}
 use Rattle.tw_options.specs.declared.command_line.CommandLine.TheVariants.{Check, Seq, Run, Trail, Replay, Upgrade}
+use Rattle.tw_run.specs.Asked.{IsReady}
 use Rattle.tw_run.specs.Threaded.{LacksThreadFor}
-use Rattle.tw_sim.specs.declared.machine.Cancel.{Cancel}
-use Rattle.tw_sim.specs.declared.machine.Cancel.TheVariants.{Aggressive, Lazy}
 
 -- its stop and its checkpoints are within their limits, and there is a worker
 abbrev pub IsRunnable : CommandLine → Type 0
 IsRunnable Check = Unit {0}
-IsRunnable (Seq stop every log progress stats) = (stop ≤ LATEST) × IfSome every (λ n. (0 < n) × (n ≤ LATEST))
-IsRunnable (Run stop every log workers batch lazy blocks rotate progress stats) = (stop ≤ LATEST) × IfSome every (λ n. (0 < n) × (n ≤ LATEST)) × IfSome workers (λ n. 0 < n)
-IsRunnable (Trail router stop keep) = stop ≤ LATEST
-IsRunnable (Replay stop workers lazy) = (stop ≤ LATEST) × (0 < workers)
+IsRunnable (Seq report) = (report.stop ≤ LATEST) × IfSome report.every (λ n. (0 < n) × (n ≤ LATEST))
+IsRunnable (Run asked) = IsReady asked
+IsRunnable (Trail trail) = trail.stop ≤ LATEST
+IsRunnable (Replay machine) = (machine.stop ≤ LATEST) × (0 < machine.workers)
 IsRunnable Upgrade = Unit {0}
-
--- when what an undone event has sent is taken back
-abbrev pub cancel_of : Bool → Cancel
-cancel_of lazy = if lazy then Lazy else Aggressive
 
 -- what is written for this input, and how the program ends
 abbrev pub due_output : CommandLine → List ℕ → Output
 due_output Check = check_output
-due_output (Seq stop every log progress stats) = seq_output stop every log
-due_output (Run stop every log workers batch lazy blocks rotate progress stats) = seq_output stop every log
-due_output (Trail router stop keep) = trail_output router stop keep
-due_output (Replay stop workers lazy) = replay_output stop (cancel_of lazy)
+due_output (Seq report) = seq_output report
+due_output (Run asked) = seq_output asked.report
+due_output (Trail trail) = trail_output trail.router trail.stop trail.keep
+due_output (Replay machine) = replay_output machine.stop machine.cancel
 due_output Upgrade = upgrade_output
 
 -- the exit status of a program that ended so
@@ -47,19 +42,19 @@ status_number (Err cause) = 2
 -- for this input a router's counter would pass its limit
 abbrev pub StopsFull : CommandLine → List ℕ → Type 0
 StopsFull Check input = ⊥
-StopsFull (Seq stop every log progress stats) input = GetsStuckFor stop input
-StopsFull (Run stop every log workers batch lazy blocks rotate progress stats) input = GetsStuckFor stop input
-StopsFull (Trail router stop keep) input = TrailGetsStuck router stop input
-StopsFull (Replay stop workers lazy) input = ⊥
+StopsFull (Seq report) input = GetsStuckFor report.stop input
+StopsFull (Run asked) input = GetsStuckFor asked.report.stop input
+StopsFull (Trail trail) input = TrailGetsStuck trail.router trail.stop input
+StopsFull (Replay machine) input = ⊥
 StopsFull Upgrade input = ⊥
 
 -- it starts threads
 abbrev pub StartsThreads : CommandLine → Type 0
 StartsThreads Check = ⊥
-StartsThreads (Seq stop every log progress stats) = ⊥
-StartsThreads (Run stop every log workers batch lazy blocks rotate progress stats) = Unit {0}
-StartsThreads (Trail router stop keep) = ⊥
-StartsThreads (Replay stop workers lazy) = ⊥
+StartsThreads (Seq report) = ⊥
+StartsThreads (Run asked) = Unit {0}
+StartsThreads (Trail trail) = ⊥
+StartsThreads (Replay machine) = ⊥
 StartsThreads Upgrade = ⊥
 
 -- what the program leaves for a command line: what is due, or nothing where it starts threads, its input is a case and one is refused

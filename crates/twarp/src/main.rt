@@ -36,7 +36,7 @@ use tips::{AT_A_TERMINAL, tip_for};
 use tw_commands::{Cause, Script, Status};
 use tw_device::{OverRead, OverWrite};
 use tw_instance::Case;
-use tw_options::{CommandLine, CommandLineFault, options};
+use tw_options::{Asked, CommandLine, CommandLineFault, options};
 
 /// The exit status of words that are no command line.
 const BAD_LINE: u8 = 3;
@@ -144,7 +144,7 @@ fn answer<R: Input + Print + Eprint + AllocGlobal + Threads + Wait + Sync + Cloc
 /// Whether a command line asks for what is counted.
 fn asks_stats(line: CommandLine) -> bool {
     match line {
-        CommandLine::Seq { stats, .. } | CommandLine::Run { stats, .. } => stats,
+        CommandLine::Seq(report) | CommandLine::Run(Asked { report, .. }) => report.stats,
         _ => false,
     }
 }
@@ -160,8 +160,8 @@ fn tell<R: Eprint + Clock>(rt: &R, observer: &Observer<'_, R>) {
 /// there are.
 fn advise<R: Eprint + AllocGlobal>(rt: &R, line: CommandLine, text: &[u8]) {
     let advice = match line {
-        CommandLine::Trail { router, .. } => advice_on_router(rt.alloc(), text, router),
-        CommandLine::Replay { .. } => advice_on::<Script>(rt.alloc(), text),
+        CommandLine::Trail(trail) => advice_on_router(rt.alloc(), text, trail.router),
+        CommandLine::Replay(_) => advice_on::<Script>(rt.alloc(), text),
         _ => advice_on::<Case>(rt.alloc(), text),
     };
     if let Some(advice) = advice {

@@ -5,7 +5,7 @@ use crate::counts::Count;
 use crate::figures::Seconds;
 use std::fmt::{self, Display, Formatter};
 use std::time::Clock;
-use tw_options::CommandLine;
+use tw_options::{Asked, CommandLine};
 
 /// So many nanoseconds are between two lines at least: with the one at the end no second has more than four.
 const BETWEEN_LINES: u64 = 334_000_000;
@@ -34,10 +34,9 @@ impl Shown {
     /// What is shown for a command line: of a run that may be long, on a terminal or where it is asked for.
     pub(crate) fn of(line: CommandLine, is_terminal: bool) -> Shown {
         match line {
-            CommandLine::Seq { .. } | CommandLine::Run { .. } if is_terminal => Shown::OneLine,
-            CommandLine::Seq { progress: true, .. } | CommandLine::Run { progress: true, .. } => {
-                Shown::Lines
-            }
+            CommandLine::Seq(_) | CommandLine::Run(_) if is_terminal => Shown::OneLine,
+            CommandLine::Seq(report) | CommandLine::Run(Asked { report, .. }) if report.progress =>
+                { Shown::Lines }
             _ => Shown::Nothing,
         }
     }

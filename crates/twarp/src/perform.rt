@@ -2,7 +2,7 @@
 
 ghost use Rattle.std.specs.Prelude.{◌≡◌, false, OnOk};
 ghost use Rattle.tw_device.specs.Source.{LosesInput, TakesInput};
-ghost use Rattle.twarp.specs.Due.{IsRunnable, Performs, cancel_of};
+ghost use Rattle.twarp.specs.Due.{IsRunnable, Performs};
 
 use std::alloc::Global;
 use std::sync::Wait;
@@ -13,8 +13,7 @@ use tw_commands::{
 };
 use tw_device::{Sink, Source};
 use tw_options::CommandLine;
-use tw_run::{Asked, Dealing, Gate, run_io};
-use tw_sim::Cancel;
+use tw_run::{Gate, run_io};
 
 /// Does what a command line asks: reads its input from the source and writes the answer that is due
 /// to the sink. Of a run the observer is told each stage as it is reached, how far it is, and what each worker does.
@@ -41,53 +40,10 @@ pub(crate) fn perform<
 {
     match line {
         CommandLine::Check => check_io(alloc, source, sink),
-        CommandLine::Seq {
-            stop,
-            every,
-            log,
-            ..
-        } => seq_io(alloc, source, sink, stop, every, log, observer),
-        CommandLine::Run {
-            stop,
-            every,
-            log,
-            workers,
-            batch,
-            lazy,
-            blocks,
-            rotate,
-            ..
-        } => {
-            let asked = Asked {
-                stop,
-                every,
-                log,
-                workers,
-                batch,
-                cancel: cancel_of(lazy),
-                dealing: Dealing { blocks, rotate },
-            };
-            run_io(rt, alloc, source, sink, asked, observer)
-        }
-        CommandLine::Trail { router, stop, keep } => {
-            trail_io(alloc, source, sink, router, stop, keep)
-        }
-        CommandLine::Replay {
-            stop,
-            workers,
-            lazy,
-        } => replay_io(alloc, source, sink, stop, workers, cancel_of(lazy)),
+        CommandLine::Seq(report) => seq_io(alloc, source, sink, report, observer),
+        CommandLine::Run(asked) => run_io(rt, alloc, source, sink, asked, observer),
+        CommandLine::Trail(trail) => trail_io(alloc, source, sink, trail),
+        CommandLine::Replay(machine) => replay_io(alloc, source, sink, machine),
         CommandLine::Upgrade => upgrade_io(alloc, source, sink),
-    }
-}
-
-/// When what an undone event has sent is taken back: at once, or as late as may be.
-fn cancel_of(lazy: bool) -> Cancel
-    ensures { result ≡ cancel_of lazy }
-{
-    if lazy {
-        Cancel::Lazy
-    } else {
-        Cancel::Aggressive
     }
 }

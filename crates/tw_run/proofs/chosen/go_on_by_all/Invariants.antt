@@ -7,8 +7,8 @@ abbrev pub invariant-loop-end : goal.invariant-loop-end
 invariant-loop-end g l = record {
   come : HasComeTo l.course.ticks l.fn.sim.case l.asked l.run;
   later : l.fn.course.ticks ≤ l.course.ticks;
-  ticks : l.course.ticks ≤ l.asked.stop;
+  ticks : l.course.ticks ≤ l.asked.report.stop;
 }
 
 abbrev pub decreases-loop-end : goal.decreases-loop-end
-decreases-loop-end g l = l.asked.stop - l.course.ticks
+decreases-loop-end g l = l.asked.report.stop - l.course.ticks

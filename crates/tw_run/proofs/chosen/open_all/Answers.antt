@@ -13,4 +13,4 @@ returns-in-Ok-of_run-clause-ok g =
     let some : 0 < n = omega (arith, chosen) in
     let few : n ≤ MOST_WORKERS_CHOSEN = omega (arith, chosen) in
     come_begun g.args.run.run.case g.args.asked g.in-Ok-of_run.sim n g.args.run.run.stop g.in-Ok.owners.items some few told.case told.workers told.cancels told.settled told.stop
-    (g.in-Ok.ensures ∙ ap (λ m. owners_after g.args.asked.dealing n m 0) nodes) (λ r known. ap (λ l. slice_get l r) (sym g.deref.ensures.value) ∙ told.owners r known)
+    (g.in-Ok.ensures ∙ ap (λ m. owners_after g.args.asked n m 0) nodes) (λ r known. ap (λ l. slice_get l r) (sym g.deref.ensures.value) ∙ told.owners r known)

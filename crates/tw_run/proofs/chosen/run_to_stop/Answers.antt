@@ -12,5 +12,5 @@ returns-in_err-run_to-clause-full g c =
     let same : c.in_err-run_to.field-0.0 ≡ Fault counter_full = (let h = sym (p.1 ∙ ap Err p.2) ∙ is in cc) in
     let told = c.in_err-run_to.ensures in
     let way = c.loop-alone.invariant in
-    let early : c.run_to.new.self.run.stop ≤ c.args.asked.stop = (let s = told.stop in let b = way.begun in let t = way.ticks in omega (arith, s, b, t)) in
-    stuck_later c.args.case.now c.args.asked.stop c.run_to.new.self.run (told.case ∙ way.case) early told.begun (told.full (ap Err same))
+    let early : c.run_to.new.self.run.stop ≤ c.args.asked.report.stop = (let s = told.stop in let b = way.begun in let t = way.ticks in omega (arith, s, b, t)) in
+    stuck_later c.args.case.now c.args.asked.report.stop c.run_to.new.self.run (told.case ∙ way.case) early told.begun (told.full (ap Err same))

@@ -5,4 +5,4 @@ use Rattle.tw_run.proofs.dealing.owners.Given as goal
 
 -- the routers before have their workers
 abbrev pub invariant-loop-router : goal.invariant-loop-router
-invariant-loop-router l = l.owners.items ≡ map (owner_after l.dealing l.workers l.routers l.checkpoints) (range_with_len 0 l.router)
+invariant-loop-router l = l.owners.items ≡ map (owner_after l.asked l.workers l.routers l.checkpoints) (range_with_len 0 l.router)

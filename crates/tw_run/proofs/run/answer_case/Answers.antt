@@ -14,7 +14,7 @@ returns-in_err-ran g c =
 
 pub write_report-requires-clause-paths : goal.write_report-requires-clause-paths
 write_report-requires-clause-paths g c =
-    rw (c.instance.ensures.value, c.in_ok-ran.ensures.ran.outcome) (shown_paths c.args.case.now c.instance.ensures.case c.args.asked.stop c.args.asked.log)
+    rw (c.instance.ensures.value, c.in_ok-ran.ensures.ran.outcome) (shown_paths c.args.case.now c.instance.ensures.case c.args.asked.report.stop c.args.asked.report.log)
 
 pub returns-in_err-write_report : goal.returns-in_err-write_report
 returns-in_err-write_report g c =
@@ -22,7 +22,7 @@ returns-in_err-write_report g c =
     let p = err_from_is_err_and r.result r.ensures.1 in
     let told = c.in_err-write_report.ensures in
     let ran = c.in_ok-ran in
-    let text = shown_report c.args.case.now c.instance.result.now c.args.asked.stop c.args.asked.every c.args.asked.log (summary_of ran.ran.outcome) ran.ran.found
+    let text = shown_report c.args.case.now c.instance.result.now c.args.asked.report (summary_of ran.ran.outcome) ran.ran.found
     c.of-verdict.result c.instance.ensures.value ran.ensures.ran.outcome ran.ensures.ran.found c.of-verdict.ensures in
     rw (p.1, p.2) (inl (record { prefix = subst (Begins _ _) text told.0; closed = told.1 }))
 
@@ -30,6 +30,6 @@ pub returns : goal.returns
 returns g c =
     let told = c.in_ok-write_report.ensures in
     let ran = c.in_ok-ran in
-    let text = shown_report c.args.case.now c.instance.result.now c.args.asked.stop c.args.asked.every c.args.asked.log (summary_of ran.ran.outcome) ran.ran.found
+    let text = shown_report c.args.case.now c.instance.result.now c.args.asked.report (summary_of ran.ran.outcome) ran.ran.found
     c.of-verdict.result c.instance.ensures.value ran.ensures.ran.outcome ran.ensures.ran.found c.of-verdict.ensures in
     inl (record { as_told = refl; whole = subst (Appends _ _) text told.0; still = told.1 })

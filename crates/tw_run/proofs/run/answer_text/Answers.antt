@@ -4,4 +4,4 @@ use Rattle.tw_run.proofs.run.answer_text.Goals as goal
 
 pub returns-in-Ok : goal.returns-in-Ok
 returns-in-Ok g c =
-    leaves_for c.args.text.now c.in-Ok.case c.in-Ok.ensures.exact _ (seq_report c.args.asked.stop c.args.asked.every c.args.asked.log) c.args.asked.stop _ _ _ c.answer_case.ensures
+    leaves_for c.args.text.now c.in-Ok.case c.in-Ok.ensures.exact _ (seq_report c.args.asked.report) c.args.asked.report.stop _ _ _ c.answer_case.ensures

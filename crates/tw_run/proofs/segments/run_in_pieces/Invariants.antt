@@ -8,7 +8,7 @@ abbrev pub invariant-loop-end : goal.invariant-loop-end
 invariant-loop-end g l = record {
   goes_on : GoesOn l.fn.sim l.run;
   early : l.run.board.stop ≤ l.time;
-  dealt : l.asked.dealing.rotate ≡ false → AreDealtAs l.asked.dealing l.checkpoints l.run;
+  dealt : l.asked.rotate ≡ false → AreDealtAs l.asked l.checkpoints l.run;
 }
 
 abbrev pub decreases-loop-end : goal.decreases-loop-end

@@ -22,7 +22,7 @@ push-seen-requires-clause-later g c =
 pub push-seen-requires-clause-latest : goal.push-seen-requires-clause-latest
 push-seen-requires-clause-latest g c =
     let way = c.loop-seen.invariant.1 in
-    let left = left_within c.loop-seen.seen c.args.asked.stop c.args.every c.loop-seen-test.true in
+    let left = left_within c.loop-seen.seen c.args.asked.report.stop c.args.every c.loop-seen-test.true in
     rw (seen_every way.shown) (omega arith)
 
 pub loop-seen-preserved : goal.loop-seen-preserved
@@ -41,7 +41,7 @@ returns-clause-found g c =
     let way = c.loop-seen.invariant.1 in
     let case = c.args.sim.case in
     let every = c.args.every in
-    let last = c.args.asked.stop / every in
+    let last = c.args.asked.report.stop / every in
     let is : IsCase case = subst IsCase (told.goes_on.case ∙ way.goes_on.case) told.sim.ruled.is_case in
     let so = seen_found case is every c.requires.some c.loop-seen.seen c.loop-seen.watch way.shown in
     c.finding-2.ensures ∙ elim c.loop-seen-test.branch [
@@ -60,8 +60,8 @@ returns-clause-dealt g c = (c.loop-seen.seen, c.in_ok-run-2.ensures.dealt)
 
 pub run_in_pieces-requires-2-clause-dealt : goal.run_in_pieces-requires-2-clause-dealt
 run_in_pieces-requires-2-clause-dealt g c κs within = λ stays.
-    dealt_always c.args.asked.dealing c.loop-seen.invariant.2.0 c.loop-seen.seen c.loop-seen.run stays c.loop-seen.invariant.2.1
+    dealt_always c.args.asked c.loop-seen.invariant.2.0 c.loop-seen.seen c.loop-seen.run stays c.loop-seen.invariant.2.1
 
 pub run_in_pieces-requires-clause-dealt : goal.run_in_pieces-requires-clause-dealt
 run_in_pieces-requires-clause-dealt g c κs within = λ stays.
-    dealt_always c.args.asked.dealing c.loop-seen.invariant.2.0 c.loop-seen.seen c.loop-seen.run stays c.loop-seen.invariant.2.1
+    dealt_always c.args.asked c.loop-seen.invariant.2.0 c.loop-seen.seen c.loop-seen.run stays c.loop-seen.invariant.2.1

@@ -11,7 +11,7 @@ pub returns-in-Trail-clause-answer : goal.returns-in-Trail-clause-answer
 returns-in-Trail-clause-answer g c = inl (rw c.in-Trail.is c.trail_io.ensures.answer)
 
 pub returns-in-Replay-clause-answer : goal.returns-in-Replay-clause-answer
-returns-in-Replay-clause-answer g c = inl (rw c.in-Replay.is (rw c.cancel_of-in-Replay.ensures at c.replay_io.ensures.answer))
+returns-in-Replay-clause-answer g c = inl (rw c.in-Replay.is c.replay_io.ensures.answer)
 
 pub returns-in-Run-clause-answer : goal.returns-in-Run-clause-answer
 returns-in-Run-clause-answer g c = elim c.run_io.ensures.answer [

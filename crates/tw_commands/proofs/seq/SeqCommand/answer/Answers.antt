@@ -14,20 +14,20 @@ returns-in_err-outcome g c =
 
 pub write_report-requires-clause-paths : goal.write_report-requires-clause-paths
 write_report-requires-clause-paths g c =
-    rw (c.instance.ensures.value, c.in_ok-outcome.ensures.outcome) (shown_paths c.args.case.now c.instance.ensures.case c.args.self.now.stop c.args.self.now.log)
+    rw (c.instance.ensures.value, c.in_ok-outcome.ensures.outcome) (shown_paths c.args.case.now c.instance.ensures.case c.args.self.now.report.stop c.args.self.now.report.log)
 
 pub returns-in_err-write_report : goal.returns-in_err-write_report
 returns-in_err-write_report g c =
     let r = c.from_residual-in_err-write_report in
     let p = err_from_is_err_and r.result r.ensures.1 in
     let told = c.in_err-write_report.ensures in
-    let text = shown_report c.args.case.now c.instance.result.now c.args.self.now.stop c.args.self.now.every c.args.self.now.log (summary_of c.in_ok-outcome.outcome) c.in_ok-outcome.found
+    let text = shown_report c.args.case.now c.instance.result.now c.args.self.now.report (summary_of c.in_ok-outcome.outcome) c.in_ok-outcome.found
     c.of-verdict.result c.instance.ensures.value c.in_ok-outcome.ensures.outcome c.in_ok-outcome.ensures.found c.of-verdict.ensures in
     rw (p.1, p.2) (record { prefix = subst (Begins _ _) text told.0; closed = told.1 })
 
 pub returns : goal.returns
 returns g c =
     let told = c.in_ok-write_report.ensures in
-    let text = shown_report c.args.case.now c.instance.result.now c.args.self.now.stop c.args.self.now.every c.args.self.now.log (summary_of c.in_ok-outcome.outcome) c.in_ok-outcome.found
+    let text = shown_report c.args.case.now c.instance.result.now c.args.self.now.report (summary_of c.in_ok-outcome.outcome) c.in_ok-outcome.found
     c.of-verdict.result c.instance.ensures.value c.in_ok-outcome.ensures.outcome c.in_ok-outcome.ensures.found c.of-verdict.ensures in
     record { as_told = refl; whole = subst (Appends _ _) text told.0; still = told.1 }

@@ -1,6 +1,6 @@
 use Rattle.std.proofs.Common.{sym, ◌∙◌}
 use Rattle.tw_commands.proofs.ReplayPaths.{same_paths}
-use Rattle.tw_commands.proofs.replay.ReplayCommand.answer.Goals as goal
+use Rattle.tw_commands.proofs.replay.MachineCommand.answer.Goals as goal
 
 pub write_replay-requires-clause-paths : goal.write_replay-requires-clause-paths
 write_replay-requires-clause-paths g c =
