@@ -2,8 +2,8 @@
 
 ghost use Rattle.std.specs.Prelude.{◌≡◌};
 ghost use Rattle.tw_model.specs.Memory.{IsUnlessMemory, map_fault};
-ghost use Rattle.tw_text.specs.LineReader.{TextReader, left_by};
-ghost use Rattle.tw_text.specs.Reading.{fault_at, finishes, read_from, whole_at};
+ghost use Rattle.tw_lines.specs.LineReader.{TextReader, left_by};
+ghost use Rattle.tw_lines.specs.Reading.{fault_at, finishes, read_from, whole_at};
 
 use crate::text_fault::{LineFault, TextFault};
 use crate::words::line_end;
@@ -11,7 +11,7 @@ use std::alloc::Global;
 use tw_model::OrMemory;
 
 /// What the lines of a text so far have given, for one kind of text.
-pub(crate) trait LineReader: Drop {
+pub trait LineReader: Drop {
     /// What a whole text gives.
     type Whole;
 
@@ -35,7 +35,7 @@ pub(crate) trait LineReader: Drop {
 
 /// What a text gives, line by line, or its first line that has a fault, with the lowest fault of
 /// that line.
-pub(crate) fn read_text<D: LineReader>(
+pub fn read_text<D: LineReader>(
     alloc: Global,
     mut draft: D,
     text: &[u8],

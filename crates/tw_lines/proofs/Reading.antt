@@ -9,12 +9,11 @@ use Rattle.std.specs.List.{position, position_or_len}
 use Rattle.tw_model.specs.declared.memory.OrMemory.{OrMemory}
 use Rattle.tw_model.specs.declared.memory.OrMemory.TheVariants.{Fault, Memory}
 use Rattle.tw_model.specs.Memory.{IsUnlessMemory, map_fault}
-use Rattle.tw_text.specs.declared.text_fault.LineFault.{LineFault}
-use Rattle.tw_text.specs.declared.text_fault.TextFault.{TextFault}
-use Rattle.tw_text.specs.LineReader.{TextReader}
-use Rattle.tw_text.specs.Reading.{at_line, fault_at, finishes, reads}
-use Rattle.tw_text.specs.Statements.{◌>>=◌}
-use Rattle.tw_text.specs.Words.{parts_of}
+use Rattle.tw_lines.specs.declared.text_fault.LineFault.{LineFault}
+use Rattle.tw_lines.specs.declared.text_fault.TextFault.{TextFault}
+use Rattle.tw_lines.specs.LineReader.{TextReader}
+use Rattle.tw_lines.specs.Reading.{at_line, fault_at, finishes, reads, ◌>>=◌}
+use Rattle.tw_lines.specs.Words.{parts_of}
 
 -- the first part ends at the first line end
 parts-Some : (text : List ℕ) (i : ℕ) → position (λ b. b == 10) text ≡ Some i → parts_of text ≡ take i text ∷ parts_of (drop (i + 1) text)

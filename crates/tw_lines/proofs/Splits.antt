@@ -9,8 +9,7 @@ use Rattle.std.proofs.lemmas.List.Folds.{list_all-append}
 use Rattle.std.proofs.lemmas.List.Splits.{join_with_byte-slice_split, slice_split_at, slice_split_none}
 use Rattle.std.specs.Char.{is_ascii_digit}
 use Rattle.std.specs.List.{All, AllByRecursion, flat_map, join_with_byte, list_all, list_any, slice_split}
-use Rattle.tw_text.specs.Text.{ended_line}
-use Rattle.tw_text.specs.Words.{is_plain, parts_of, words}
+use Rattle.tw_lines.specs.Words.{ended_line, is_plain, parts_of, words}
 
 -- a letter a to z, or a digit
 abbrev pub is_sign : ℕ → Bool

@@ -1,7 +1,7 @@
 use Rattle.std.proofs.Common.{◌==◌, rules, tests}
 use Rattle.std.proofs.lemmas.Iterator.Consumers.{map_from_collect}
 use Rattle.std.proofs.lemmas.Iterator.Splits.{YieldsList-from_slice_split}
-use Rattle.tw_text.proofs.words.split_words.Goals as goal
+use Rattle.tw_lines.proofs.words.split_words.Goals as goal
 
 pub returns : goal.returns
 returns c =

@@ -1,7 +1,7 @@
 use Rattle.std.proofs.Common.{◌≡◌, ◌+◌, ◌≤◌, length}
-use Rattle.tw_text.specs.Reading.{read_from, reads}
-use Rattle.tw_text.specs.Words.{parts_of}
-use Rattle.tw_text.proofs.line_reader.read_text.Given as goal
+use Rattle.tw_lines.specs.Reading.{read_from, reads}
+use Rattle.tw_lines.specs.Words.{parts_of}
+use Rattle.tw_lines.proofs.line_reader.read_text.Given as goal
 
 abbrev pub invariant-loop-end : goal.invariant-loop-end
 invariant-loop-end g l = record {

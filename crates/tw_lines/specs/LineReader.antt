@@ -1,7 +1,7 @@
 -- How texts are read (own).
 use Rattle.std.specs.Prelude.{ℕ, Bool, List, Option, Result}
 use Rattle.std.specs.Result.{result_map_both}
-use Rattle.tw_text.specs.declared.text_fault.LineFault.{LineFault}
+use Rattle.tw_lines.specs.declared.text_fault.LineFault.{LineFault}
 
 -- how one kind of text is read, line by line: what a line, ended or not, makes of what those before it gave; and what they all gave, where none is missing
 pub record TextReader (D A : Type 0) : Type 0 where

@@ -2,9 +2,9 @@
 use Rattle.std.specs.Prelude.{ℕ, List, ◌++◌, codes, decimal}
 use Rattle.tw_model.specs.declared.rule.Rule.{Rule}
 use Rattle.tw_model.specs.declared.rule.Rule.TheVariants as rule
-use Rattle.tw_text.specs.declared.text_fault.LineFault.{LineFault}
-use Rattle.tw_text.specs.declared.text_fault.LineFault.TheVariants as x
-use Rattle.tw_text.specs.declared.text_fault.TextFault.{TextFault}
+use Rattle.tw_lines.specs.declared.text_fault.LineFault.{LineFault}
+use Rattle.tw_lines.specs.declared.text_fault.LineFault.TheVariants as x
+use Rattle.tw_lines.specs.declared.text_fault.TextFault.{TextFault}
 
 -- the code and the name of a rule
 abbrev pub rule_label : Rule → List ℕ × List ℕ

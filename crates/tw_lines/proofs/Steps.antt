@@ -1,6 +1,6 @@
 -- Steps that give something or fail.
 use Rattle.std.proofs.Common.{◌≡◌, Bool, true, false, if◌then◌else◌, Result, Ok, Err, refl}
-use Rattle.tw_text.specs.Statements.{◌>>=◌}
+use Rattle.tw_lines.specs.Reading.{◌>>=◌}
 
 -- what was given, and what followed from it
 pub record Bound {A B E : Type 0} (given : Result A E) (f : A → Result B E) (last : B) : Type 0 where

@@ -4,8 +4,7 @@ ghost use Rattle.std.specs.Char.{is_ascii_digit};
 ghost use Rattle.std.specs.List.{list_all, position};
 ghost use Rattle.std.specs.Prelude.{◌≡◌, ◌≤◌, ◌==◌, length, map, Some, None, IfOk, if◌then◌else◌};
 ghost use Rattle.std.specs.Str.Parse.{digits_value};
-ghost use Rattle.tw_text.specs.Statements.{number_of};
-ghost use Rattle.tw_text.specs.Words.{is_plain, line_feed, words};
+ghost use Rattle.tw_lines.specs.Words.{is_plain, line_feed, number_of, words};
 
 use crate::text_fault::LineFault;
 use memchr::memchr;
@@ -13,7 +12,7 @@ use std::alloc::{AllocError, Global};
 use tw_model::limits::MOST_DIGITS;
 
 /// Whether each byte of the line is a space, a letter a to z, or a digit.
-pub(crate) fn is_plain_line(line: &[u8]) -> bool
+pub fn is_plain_line(line: &[u8]) -> bool
     ensures { result ≡ list_all is_plain line.now }
 {
     line.iter().all(|byte| is_plain(*byte))
@@ -26,7 +25,7 @@ fn is_plain(byte: u8) -> bool
 }
 
 /// What stands between the spaces of a line.
-pub(crate) fn split_words(alloc: Global, line: &[u8]) -> Result<Vec<&[u8]>, AllocError>
+pub fn split_words(alloc: Global, line: &[u8]) -> Result<Vec<&[u8]>, AllocError>
     ensures { IfOk result (λ v. map (λ x. x.now) v.items ≡ words line.now) }
 {
     line.split(|byte| *byte == b' ').collect(alloc)
@@ -40,7 +39,7 @@ pub(crate) fn line_end(text: &[u8]) -> Option<usize>
 }
 
 /// The number that a word is: at most ten digits, with no zero in front.
-pub(crate) fn number_of(word: &[u8]) -> Result<u64, LineFault>
+pub fn number_of(word: &[u8]) -> Result<u64, LineFault>
     ensures { result ≡ number_of word.now }
 {
     if word.is_empty() || word.len() > MOST_DIGITS || (word.len() > 1 && word[0] == b'0') {

@@ -4,16 +4,15 @@ use Rattle.std.proofs.lemmas.Bool.{cases_Bool}
 use Rattle.std.proofs.lemmas.Bool.Decides.{nat_tests}
 use Rattle.std.proofs.lemmas.List.{append-nil, length-append}
 use Rattle.std.specs.List.{AllByRecursion, flat_map, list_all}
-use Rattle.tw_text.specs.declared.text_fault.LineFault.{LineFault}
-use Rattle.tw_text.specs.declared.text_fault.LineFault.TheVariants.{End}
-use Rattle.tw_text.specs.declared.text_fault.TextFault.{TextFault}
-use Rattle.tw_text.specs.LineReader.{TextReader}
-use Rattle.tw_text.specs.Reading.{at_line, fault_at, finishes, read_from, reads, whole_at}
-use Rattle.tw_text.specs.Text.{ended_line}
-use Rattle.tw_text.specs.Words.{is_plain, parts_of}
-use Rattle.tw_text.proofs.Reading.{reads-more}
-use Rattle.tw_text.proofs.Splits.{lines-text, parts-lines}
-use Rattle.tw_text.proofs.Steps.{bound}
+use Rattle.tw_lines.specs.declared.text_fault.LineFault.{LineFault}
+use Rattle.tw_lines.specs.declared.text_fault.LineFault.TheVariants.{End}
+use Rattle.tw_lines.specs.declared.text_fault.TextFault.{TextFault}
+use Rattle.tw_lines.specs.LineReader.{TextReader}
+use Rattle.tw_lines.specs.Reading.{at_line, fault_at, finishes, read_from, reads, whole_at}
+use Rattle.tw_lines.specs.Words.{ended_line, is_plain, parts_of}
+use Rattle.tw_lines.proofs.Reading.{reads-more}
+use Rattle.tw_lines.proofs.Splits.{lines-text, parts-lines}
+use Rattle.tw_lines.proofs.Steps.{bound}
 
 -- reading these lines, one after another, leads from d to last
 abbrev pub Follows : {D A : Type 0} → TextReader D A → D → List (List ℕ) → D → Type 0

@@ -1,6 +1,6 @@
 use Rattle.std.proofs.Common.{◌≡◌, ◌^◌, ◌<◌, drop}
-use Rattle.tw_text.proofs.Numbers.{number_after}
-use Rattle.tw_text.proofs.words.digits_value.Given as goal
+use Rattle.tw_lines.proofs.Numbers.{number_after}
+use Rattle.tw_lines.proofs.words.digits_value.Given as goal
 
 abbrev pub invariant-loop-digit : goal.invariant-loop-digit
 invariant-loop-digit l = record {

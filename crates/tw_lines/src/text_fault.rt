@@ -2,7 +2,7 @@
 
 ghost use Rattle.std.specs.Prelude.{◌≡◌, Some};
 ghost use Rattle.tw_model.specs.declared.memory.OrMemory.TheVariants.{Fault};
-ghost use Rattle.tw_text.specs.FaultNames.{fault_label, fault_text, refusal_text, rule_label};
+ghost use Rattle.tw_lines.specs.FaultNames.{fault_label, fault_text, refusal_text, rule_label};
 
 use std::fmt::{self, Display, Formatter};
 use thiserror::Error;

@@ -1,8 +1,8 @@
 use Rattle.std.proofs.Common.{◌==◌, ◌+◌, sym, ◌∙◌, arith}
 use Rattle.std.proofs.lemmas.List.{length-drop, take_rest}
 use Rattle.std.proofs.lemmas.List.Quantifiers.{position-Some}
-use Rattle.tw_text.proofs.Reading.{read_all, read_on, stopped}
-use Rattle.tw_text.proofs.line_reader.read_text.Goals as goal
+use Rattle.tw_lines.proofs.Reading.{read_all, read_on, stopped}
+use Rattle.tw_lines.proofs.line_reader.read_text.Goals as goal
 
 pub returns-in-Err : goal.returns-in-Err
 returns-in-Err g c =
