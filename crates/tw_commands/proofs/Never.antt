@@ -5,7 +5,7 @@ use Rattle.tw_commands.specs.declared.cause.Cause.TheVariants.{Memory, CounterFu
 use Rattle.tw_commands.specs.declared.cause.Status.{Status}
 use Rattle.tw_commands.specs.ForCase.{StuckFor}
 use Rattle.tw_commands.specs.Output.{Answers, Leaves, Output}
-use Rattle.tw_text.specs.declared.text_fault.TextFault.{TextFault}
+use Rattle.tw_lines.specs.declared.text_fault.TextFault.{TextFault}
 
 never : {I : Type 0} (read : Result I TextFault) → StuckFor (λ _. ⊥) read → ⊥
 never (Ok case) h = h

@@ -2,8 +2,8 @@
 use Rattle.std.specs.Prelude.{ℕ, List, [], ◌∷◌, ◌++◌, Result, Ok, Err}
 use Rattle.tw_commands.specs.declared.cause.Status.TheVariants.{Refused}
 use Rattle.tw_commands.specs.Output.{Output}
-use Rattle.tw_text.specs.declared.text_fault.TextFault.{TextFault}
-use Rattle.tw_text.specs.FaultNames.{refusal_text}
+use Rattle.tw_lines.specs.declared.text_fault.TextFault.{TextFault}
+use Rattle.tw_lines.specs.FaultNames.{refusal_text}
 
 -- a refusal, with its text
 abbrev pub refusal_output : List ℕ → Output

@@ -4,7 +4,7 @@ ghost use Rattle.std.specs.Prelude.{◌≡◌, List, ℕ, Result};
 ghost use Rattle.tw_model.specs.Case.{Case as ACase};
 ghost use Rattle.tw_model.specs.Memory.{IsUnlessMemory};
 ghost use Rattle.tw_sim.specs.declared.machine.Step.{Step as AStep};
-ghost use Rattle.tw_text.specs.declared.text_fault.TextFault.{TextFault as ATextFault};
+ghost use Rattle.tw_lines.specs.declared.text_fault.TextFault.{TextFault as ATextFault};
 ghost use Rattle.tw_text.specs.Reading.{case_of};
 ghost use Rattle.tw_text.specs.ReplayText.{replay_of};
 

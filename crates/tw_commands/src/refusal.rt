@@ -3,7 +3,7 @@
 ghost use Rattle.std.specs.Prelude.{◌≡◌, ◌++◌, ◌∷◌, [], false};
 ghost use Rattle.tw_commands.specs.ForCase.{refusal_output};
 ghost use Rattle.tw_commands.specs.Output.{Leaves};
-ghost use Rattle.tw_text.specs.FaultNames.{refusal_text};
+ghost use Rattle.tw_lines.specs.FaultNames.{refusal_text};
 
 use crate::cause::{Cause, Status};
 use tw_device::Sink;

@@ -97,11 +97,12 @@ pub(crate) fn is_dealt_so(exchange: &mut Exchange, row: &Row<'_>, alloc: Global)
 /// Messages, the answer where they are dealt, and what is dealt to workers 0, 1 and 2.
 type Deal<'a> = (&'a [Signed<Event>], Dealt, [&'a [Signed<Event>]; 3]);
 
-/// Whether messages are dealt so to the workers of an exchange, one deal after another.
-fn deals(made: Option<Exchange>, deals: &[Deal<'_>], alloc: Global) -> bool {
+/// Whether messages are dealt so to the workers of an exchange, one deal after another; `at` counts those that are tried.
+fn deals(made: Option<Exchange>, deals: &[Deal<'_>], alloc: Global, at: &mut u32) -> bool {
     let parcels = &mut Parcels::new(alloc);
     holds_of_made(made, |exchange| {
         deals.iter().all(|(out, answer, lists)| {
+            *at = at.wrapping_add(1);
             deal(exchange, parcels, out) == *answer
                 && [parcels.list(0), parcels.list(1), parcels.list(2)] == *lists
         })
@@ -110,33 +111,39 @@ fn deals(made: Option<Exchange>, deals: &[Deal<'_>], alloc: Global) -> bool {
 
 #[test]
 fn messages_are_dealt_by_worker(rt: HostRuntime) {
+    let (alloc, mut at) = (rt.alloc(), 0);
     let ([m, n], [c, d]) = (offers_of_origin(), offers_of_1());
     let rows: [Deal<'_>; 2] = [
         (&[m, n], Ok(()), [&[n], &[m], &[]]),
         (&[c, d], Ok(()), [&[c, d], &[], &[]]),
     ];
-    assert!(rt; deals(exchange(rt.alloc()), &rows, rt.alloc()));
+    let is_so = deals(exchange(alloc), &rows, alloc, &mut at);
+    assert!(rt; is_so, "deal {at}");
 }
 
 #[test]
 fn visits_hand_out_what_is_dealt(rt: HostRuntime) {
+    let (alloc, mut at) = (rt.alloc(), 0);
     let ([m, n], [a, b]) = (offers_of_origin(), early_offers_of_2());
     let rows: [Row<'_>; 3] = [
         (0, &[m, n], None, Ok(&[n]), (0, Some(5))),
         (0, &[a, b], Some(7), Ok(&[a]), (0, Some(7))),
         (1, &[], None, Ok(&[m, b]), (1, Some(1))),
     ];
-    assert!(rt; holds(exchange(rt.alloc()), &rows, Way::Dealt, rt.alloc()));
+    let is_so = holds(exchange(alloc), &rows, Way::Dealt, alloc, &mut at);
+    assert!(rt; is_so, "visit {at}");
 }
 
 #[test]
 fn dealt_messages_of_the_past_are_refused(rt: HostRuntime) {
-    assert!(rt; refuses(rt.alloc(), Way::Dealt));
+    let mut at = 0;
+    let is_so = refuses(rt.alloc(), Way::Dealt, &mut at);
+    assert!(rt; is_so, "visit {at}");
 }
 
 #[test]
 fn messages_for_nobody_are_not_dealt(rt: HostRuntime) {
     let refused = Err(OrMemory::Fault(VisitFault::NoRouter));
     let rows: [Deal<'_>; 1] = [(&offers_of_origin(), refused, [&[], &[], &[]])];
-    assert!(rt; deals(owned(rt.alloc(), &[1, 1]), &rows, rt.alloc()));
+    assert!(rt; deals(owned(rt.alloc(), &[1, 1]), &rows, rt.alloc(), &mut 0));
 }

@@ -70,9 +70,16 @@ fn is_so(exchange: &mut Exchange, row: &Row<'_>, alloc: Global) -> bool {
     out.is_ok_and(|out| is_answer(&visit(exchange, worker, out, told), row, halted))
 }
 
-/// Whether visits, one by one, are answered so and leave such bounds and reports.
-pub(crate) fn goes_so(exchange: &mut Exchange, rows: &[Row<'_>], way: Way, alloc: Global) -> bool {
+/// Whether visits, one by one, are answered so and leave such bounds and reports; `at` counts those that are tried.
+pub(crate) fn goes_so(
+    exchange: &mut Exchange,
+    rows: &[Row<'_>],
+    way: Way,
+    alloc: Global,
+    at: &mut u32,
+) -> bool {
     rows.iter().all(|row| {
+        *at = at.wrapping_add(1);
         let is_so = match way {
             Way::ByMessage => is_so(exchange, row, alloc),
             Way::Dealt => is_dealt_so(exchange, row, alloc),
@@ -82,9 +89,15 @@ pub(crate) fn goes_so(exchange: &mut Exchange, rows: &[Row<'_>], way: Way, alloc
 }
 
 /// Whether visits of an exchange, one by one, are answered so and leave no mail.
-pub(crate) fn holds(made: Option<Exchange>, rows: &[Row<'_>], way: Way, alloc: Global) -> bool {
+pub(crate) fn holds(
+    made: Option<Exchange>,
+    rows: &[Row<'_>],
+    way: Way,
+    alloc: Global,
+    at: &mut u32,
+) -> bool {
     holds_of_made(made, |exchange| {
-        goes_so(exchange, rows, way, alloc) && is_left(exchange, &[])
+        goes_so(exchange, rows, way, alloc, at) && is_left(exchange, &[])
     })
 }
 
@@ -94,30 +107,30 @@ pub(crate) fn is_left(exchange: &Exchange, mail: &[Signed<Event>]) -> bool {
 }
 
 /// Whether two visits raise the bound to 2.
-fn rises_to_2(exchange: &mut Exchange, alloc: Global) -> bool {
+fn rises_to_2(exchange: &mut Exchange, alloc: Global, at: &mut u32) -> bool {
     let rows: [Row<'_>; 2] = [
         (0, &[], Some(5), Ok(&[]), (0, Some(5))),
         (1, &offers_of_1(), None, Ok(&[]), (2, None)),
     ];
-    goes_so(exchange, &rows, Way::ByMessage, alloc)
+    goes_so(exchange, &rows, Way::ByMessage, alloc, at)
 }
 
 /// Whether visits of nobody and of the past are refused, where the bound is 2.
-fn refuses_nobody_and_the_past(exchange: &mut Exchange, way: Way, alloc: Global) -> bool {
+fn refuses_at_2(exchange: &mut Exchange, way: Way, alloc: Global, at: &mut u32) -> bool {
     let [m, _] = offers_of_origin();
     let rows: [Row<'_>; 3] = [
         (2, &[], None, Err(VisitFault::NoWorker), (2, None)),
         (0, &[m], Some(5), Err(VisitFault::Early), (2, Some(5))),
         (2, &[m], Some(5), Err(VisitFault::NoWorker), (2, None)),
     ];
-    goes_so(exchange, &rows, way, alloc)
+    goes_so(exchange, &rows, way, alloc, at)
 }
 
 /// Whether an exchange whose bound has risen refuses visits, deposited in this way, and keeps its mail.
-pub(crate) fn refuses(alloc: Global, way: Way) -> bool {
+pub(crate) fn refuses(alloc: Global, way: Way, at: &mut u32) -> bool {
     holds_of_made(exchange(alloc), |exchange| {
-        rises_to_2(exchange, alloc)
-            && refuses_nobody_and_the_past(exchange, way, alloc)
+        rises_to_2(exchange, alloc, at)
+            && refuses_at_2(exchange, way, alloc, at)
             && is_left(exchange, &offers_of_1())
     })
 }
@@ -126,7 +139,7 @@ pub(crate) fn refuses(alloc: Global, way: Way) -> bool {
 fn halts(exchange: &mut Exchange, alloc: Global) -> bool {
     exchange.halt();
     let rows: [Row<'_>; 1] = [(1, &[], Some(30), Ok(&[]), (0, Some(30)))];
-    goes_so(exchange, &rows, Way::ByMessage, alloc)
+    goes_so(exchange, &rows, Way::ByMessage, alloc, &mut 0)
         && exchange.is_halted()
         && exchange.workers() == 2
         && is_opened_again(exchange)
@@ -143,6 +156,7 @@ fn is_opened_again(exchange: &mut Exchange) -> bool {
 
 #[test]
 fn visits_hand_out_mail_and_raise_the_bound(rt: HostRuntime) {
+    let (alloc, mut at) = (rt.alloc(), 0);
     let ([m, n], [c, d]) = (offers_of_origin(), offers_of_1());
     let rows: [Row<'_>; 4] = [
         (0, &[m, n], None, Ok(&[n]), (0, Some(5))),
@@ -150,12 +164,15 @@ fn visits_hand_out_mail_and_raise_the_bound(rt: HostRuntime) {
         (1, &[c, d], None, Ok(&[]), (2, None)),
         (0, &[], Some(5), Ok(&[c, d]), (2, Some(2))),
     ];
-    assert!(rt; holds(exchange(rt.alloc()), &rows, Way::ByMessage, rt.alloc()));
+    let is_so = holds(exchange(alloc), &rows, Way::ByMessage, alloc, &mut at);
+    assert!(rt; is_so, "visit {at}");
 }
 
 #[test]
 fn visits_of_nobody_and_of_the_past_are_refused(rt: HostRuntime) {
-    assert!(rt; refuses(rt.alloc(), Way::ByMessage));
+    let mut at = 0;
+    let is_so = refuses(rt.alloc(), Way::ByMessage, &mut at);
+    assert!(rt; is_so, "visit {at}");
 }
 
 #[test]

@@ -165,13 +165,20 @@ fn is_dealt_out(warp: &mut Warp<'_>) -> bool {
 #[test]
 fn a_machine_takes_its_steps(rt: HostRuntime) {
     let (alloc, at_once) = (rt.alloc(), Cancel::Aggressive);
-    assert!(rt; holds(alloc, DISAGREE, 1, at_once, keeps_its_stop));
-    assert!(rt; holds(alloc, DISAGREE, 1, at_once, rolls_back));
-    assert!(rt; holds(alloc, DISAGREE, 2, at_once, rolls_back_in_one_call));
-    assert!(rt; holds(alloc, DISAGREE, 2, at_once, rolls_back_in_one_call));
-    assert!(rt; holds(alloc, DISAGREE, 3, at_once, rolls_back));
-    assert!(rt; holds(alloc, DISAGREE, 1, at_once, is_pending_twice));
-    assert!(rt; holds(alloc, DISAGREE, 2, at_once, is_dealt_out));
+    let is_so = holds(alloc, DISAGREE, 1, at_once, keeps_its_stop);
+    assert!(rt; is_so, "the stop never falls");
+    let is_so = holds(alloc, DISAGREE, 1, at_once, rolls_back);
+    assert!(rt; is_so, "a straggler is rolled back");
+    let is_so = holds(alloc, DISAGREE, 2, at_once, rolls_back_in_one_call);
+    assert!(rt; is_so, "a straggler in one call");
+    let is_so = holds(alloc, DISAGREE, 2, at_once, rolls_back_in_one_call);
+    assert!(rt; is_so, "a straggler once more");
+    let is_so = holds(alloc, DISAGREE, 3, at_once, rolls_back);
+    assert!(rt; is_so, "a router for each worker");
+    let is_so = holds(alloc, DISAGREE, 1, at_once, is_pending_twice);
+    assert!(rt; is_so, "an event is pending twice");
+    let is_so = holds(alloc, DISAGREE, 2, at_once, is_dealt_out);
+    assert!(rt; is_so, "routers are dealt out");
 }
 
 #[test]

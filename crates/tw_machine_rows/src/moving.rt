@@ -166,9 +166,14 @@ fn holds<F: for<'a> FnOnce(&mut Shard<'a>, &mut Shard<'a>) -> bool>(
 
 #[test]
 fn a_router_goes_from_one_shard_to_another(rt: HostRuntime) {
-    let alloc = rt.alloc();
-    assert!(rt; holds(alloc, Cancel::Aggressive, are_dealt_out));
-    assert!(rt; holds(alloc, Cancel::Aggressive, is_refused));
-    assert!(rt; holds(alloc, Cancel::Aggressive, comes_with_what_waits));
-    assert!(rt; holds(alloc, Cancel::Lazy, comes_with_what_is_held));
+    let (alloc, at_once, lazy) = (rt.alloc(), Cancel::Aggressive, Cancel::Lazy);
+    let rows = [
+        ("dealt out by a list", holds(alloc, at_once, are_dealt_out)),
+        ("a router of no shard", holds(alloc, at_once, is_refused)),
+        ("what waits", holds(alloc, at_once, comes_with_what_waits)),
+        ("what is held", holds(alloc, lazy, comes_with_what_is_held)),
+    ];
+    for (name, is_so) in rows {
+        assert!(rt; is_so, "{name}");
+    }
 }

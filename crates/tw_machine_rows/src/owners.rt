@@ -41,22 +41,27 @@ fn tells_owners(alloc: Global, list: &[u32], owners: [Option<u32>; 4]) -> bool {
 }
 
 /// Whether what worker 0 deposits for router 2 of worker 1 is taken out, and the other mail is left.
-fn takes_out_mail(exchange: &mut Exchange, to: &mut Vec<Signed<Event>>, alloc: Global) -> bool {
+fn takes_out_mail(
+    exchange: &mut Exchange,
+    to: &mut Vec<Signed<Event>>,
+    alloc: Global,
+    at: &mut u32,
+) -> bool {
     let ([m, n], [c, d]) = (offers_of_origin(), offers_of_1());
     let rows: [Row<'_>; 2] = [
         (0, &[m, n], None, Ok(&[]), (0, None)),
         (0, &[c, d], None, Ok(&[]), (0, None)),
     ];
-    goes_so(exchange, &rows, Way::ByMessage, alloc)
+    goes_so(exchange, &rows, Way::ByMessage, alloc, at)
         && takes(exchange, 2, to)
         && to.as_slice() == &[n, d][..]
         && exchange.mail(1) == &[m, c][..]
 }
 
 /// Whether mail is taken out where worker 1 has all routers.
-fn takes_out(alloc: Global) -> bool {
+fn takes_out(alloc: Global, at: &mut u32) -> bool {
     let (made, to) = (owned(alloc, &[1, 1, 1]), &mut Vec::new(alloc));
-    holds_of_made(made, |exchange| takes_out_mail(exchange, to, alloc))
+    holds_of_made(made, |exchange| takes_out_mail(exchange, to, alloc, at))
 }
 
 fn gives_a_router(alloc: Global) -> bool {
@@ -92,17 +97,21 @@ fn owners_are_those_of_the_list(rt: HostRuntime) {
 
 #[test]
 fn mail_goes_by_owners(rt: HostRuntime) {
-    let (alloc, [m, n]) = (rt.alloc(), offers_of_origin());
+    let (alloc, mut at, [m, n]) = (rt.alloc(), 0, offers_of_origin());
     let rows: [Row<'_>; 2] = [
         (0, &[m, n], None, Ok(&[n]), (0, Some(5))),
         (1, &[], None, Ok(&[m]), (1, Some(1))),
     ];
-    assert!(rt; holds(owned(alloc, &[1, 1, 0]), &rows, Way::ByMessage, alloc));
+    let made = owned(alloc, &[1, 1, 0]);
+    let is_so = holds(made, &rows, Way::ByMessage, alloc, &mut at);
+    assert!(rt; is_so, "visit {at}");
 }
 
 #[test]
 fn all_mail_for_a_router_is_taken_out(rt: HostRuntime) {
-    assert!(rt; takes_out(rt.alloc()));
+    let mut at = 0;
+    let is_so = takes_out(rt.alloc(), &mut at);
+    assert!(rt; is_so, "visit {at}");
 }
 
 #[test]
@@ -114,5 +123,5 @@ fn a_router_is_given_to_another_worker(rt: HostRuntime) {
 fn visits_for_a_router_without_a_worker_are_refused(rt: HostRuntime) {
     let (alloc, refused) = (rt.alloc(), Err(VisitFault::NoRouter));
     let rows: [Row<'_>; 1] = [(0, &offers_of_origin(), Some(3), refused, (0, Some(0)))];
-    assert!(rt; holds(owned(alloc, &[1, 1]), &rows, Way::ByMessage, alloc));
+    assert!(rt; holds(owned(alloc, &[1, 1]), &rows, Way::ByMessage, alloc, &mut 0));
 }

@@ -242,12 +242,17 @@ fn sends_behind_what_is_lent(alloc: Global, shard: &mut Shard<'_>) -> bool {
 fn a_shard_goes_on_and_back(rt: HostRuntime) {
     let alloc = rt.alloc();
     let sends_behind = |shard: &mut Shard<'_>| sends_behind_what_is_lent(alloc, shard);
-    assert!(rt; holds(alloc, 2, is_rolled_back_and_goes_on));
-    assert!(rt; holds(alloc, 2, tells_what_it_has_handled));
-    assert!(rt; holds(alloc, 2, tells_what_it_has_committed));
-    assert!(rt; holds(alloc, 0, takes_back_and_sends_again));
-    assert!(rt; holds(alloc, 1, handles_once));
-    assert!(rt; holds(alloc, 1, keeps_an_antimessage));
-    assert!(rt; holds(alloc, 0, sends_behind));
-    assert!(rt; holds(alloc, 2, handles_the_least_first));
+    let rows = [
+        ("rolled back", holds(alloc, 2, is_rolled_back_and_goes_on)),
+        ("handled", holds(alloc, 2, tells_what_it_has_handled)),
+        ("committed", holds(alloc, 2, tells_what_it_has_committed)),
+        ("sent again", holds(alloc, 0, takes_back_and_sends_again)),
+        ("an event sent twice", holds(alloc, 1, handles_once)),
+        ("antimessage first", holds(alloc, 1, keeps_an_antimessage)),
+        ("behind what is lent", holds(alloc, 0, sends_behind)),
+        ("the least first", holds(alloc, 2, handles_the_least_first)),
+    ];
+    for (name, is_so) in rows {
+        assert!(rt; is_so, "{name}");
+    }
 }

@@ -133,9 +133,9 @@ module _ {S E : Type 0} (m : Simulation S E) (law : IsLawful m) where
               | inl is ↦
                   let came = (moved.pending.gone e is).1 in
                   let none = none_waits e is in
-                  let here : q2.history (m.dst e) ≡ p.history (m.dst e) = ap q2.history is ∙ (moved.history_came ∙ ap p.history (sym is)) in
+                  let here : q2.history (m.dst e) ≡ p.history (m.dst e) = ap q2.history is ∙ (moved.history.came ∙ ap p.history (sym is)) in
                   first.ahead e z (omega arith) (subst (λ xs. 0 < times m z xs) here k)
-              | inr ne ↦ (let stayed = moved.pending.stays_to e ne in second.ahead e z (omega arith) (subst (λ xs. 0 < times m z xs) (moved.history_to (m.dst e) ne) k))
+              | inr ne ↦ (let stayed = moved.pending.stays_to e ne in second.ahead e z (omega arith) (subst (λ xs. 0 < times m z xs) (moved.history.stays_to (m.dst e) ne) k))
             ];
             alone = λ e h. grind arith;
             suit = λ e h. elim (cases_lt 0 (times_handled m (whole 0 p) e + times_loose m (whole 0 p) e)) [
@@ -184,14 +184,14 @@ module _ {S E : Type 0} (m : Simulation S E) (law : IsLawful m) where
           let i2 = hand_minus p2 e in
           let j = hand_minus q e in
           let j2 = hand_minus q2 e in
-          let k : messages m e q2.outgoing ≡ messages m e q.outgoing = ap (messages m e) moved.outgoing_to in
-          let l : antimessages m e q2.outgoing ≡ antimessages m e q.outgoing = ap (antimessages m e) moved.outgoing_to in
-          let n : messages m e q2.unsent ≡ messages m e q.unsent = ap (messages m e) moved.unsent_to in
-          let o : antimessages m e q2.unsent ≡ antimessages m e q.unsent = ap (antimessages m e) moved.unsent_to in
-          let k2 : messages m e p2.outgoing ≡ messages m e p.outgoing = ap (messages m e) moved.outgoing_from in
-          let l2 : antimessages m e p2.outgoing ≡ antimessages m e p.outgoing = ap (antimessages m e) moved.outgoing_from in
-          let n2 : messages m e p2.unsent ≡ messages m e p.unsent = ap (messages m e) moved.unsent_from in
-          let o2 : antimessages m e p2.unsent ≡ antimessages m e p.unsent = ap (antimessages m e) moved.unsent_from in
+          let k : messages m e q2.outgoing ≡ messages m e q.outgoing = ap (messages m e) moved.sent_to.outgoing in
+          let l : antimessages m e q2.outgoing ≡ antimessages m e q.outgoing = ap (antimessages m e) moved.sent_to.outgoing in
+          let n : messages m e q2.unsent ≡ messages m e q.unsent = ap (messages m e) moved.sent_to.unsent in
+          let o : antimessages m e q2.unsent ≡ antimessages m e q.unsent = ap (antimessages m e) moved.sent_to.unsent in
+          let k2 : messages m e p2.outgoing ≡ messages m e p.outgoing = ap (messages m e) moved.sent_from.outgoing in
+          let l2 : antimessages m e p2.outgoing ≡ antimessages m e p.outgoing = ap (antimessages m e) moved.sent_from.outgoing in
+          let n2 : messages m e p2.unsent ≡ messages m e p.unsent = ap (messages m e) moved.sent_from.unsent in
+          let o2 : antimessages m e p2.unsent ≡ antimessages m e p.unsent = ap (antimessages m e) moved.sent_from.unsent in
           omega arith
 
     -- ---- the rule
@@ -219,11 +219,11 @@ module _ {S E : Type 0} (m : Simulation S E) (law : IsLawful m) where
               let again = total_set (is_at w) (set ps i p2) j q q2 between in
               let at : is_at w q2 ≡ is_at w q = ap (λ v. cond (v == w) 1 0) moved.worker_to in
               let stays = count w in
-              let one = rule.places w (subst (λ n. w < n) moved.workers l) in
+              let one = rule.places w (subst (λ n. w < n) moved.board.workers l) in
               omega arith);
           routers = λ k l. elim (cases_eq k r) [
-            | inl is ↦ (let a : later k ≡ q.worker = ap later is ∙ is_now in let b = stands_q.worker in let c = moved.workers in omega arith)
-            | inr ne ↦ (let a = same k ne in let b = rule.routers k l in let c = moved.workers in omega arith)
+            | inl is ↦ (let a : later k ≡ q.worker = ap later is ∙ is_now in let b = stands_q.worker in let c = moved.board.workers in omega arith)
+            | inr ne ↦ (let a = same k ne in let b = rule.routers k l in let c = moved.board.workers in omega arith)
           ];
           balance = search (rules, total_set, set, balanced);
         }

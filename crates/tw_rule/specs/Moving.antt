@@ -1,9 +1,10 @@
 -- A router that goes from one worker's place to another's, with all that is its own (own, after Jefferson, Virtual Time, 1985).
-use Rattle.std.specs.Prelude.{ℕ, ◌+◌, ◌≡◌, ◌≤◌, true, false, [], Some}
+use Rattle.std.specs.Prelude.{ℕ, ◌+◌, ◌≡◌, ◌≤◌, List, false, [], Some}
 use Rattle.tw_core.specs.Machine.{antimessages, messages}
 use Rattle.tw_rule.specs.Board.{Board, report_of, workers}
 use Rattle.tw_rule.specs.Place.{Place}
 use Rattle.tw_sim.specs.Simulation.{Simulation, times}
+use Rattle.tw_sim.specs.declared.machine.Signed.{Signed}
 
 module _ {E : Type 0} (whose : E → ℕ) (r : ℕ) where
   -- of router r's events, counted at two places before and after, none is left at the first and all are at the second
@@ -26,61 +27,62 @@ pub record HasFollowed {X : Type 0} (r : ℕ) (from to from2 to2 : ℕ → X) : 
   pub stays_from : (k : ℕ) → (k ≡ r → ⊥) → from2 k ≡ from k
   pub stays_to : (k : ℕ) → (k ≡ r → ⊥) → to2 k ≡ to k
 
-module _ {S E : Type 0} (m : Simulation S E) where
-  -- what a place and the mail hold of messages
-  abbrev pub messages_near : Board E → Place E → E → ℕ
-  messages_near x p e = messages m e p.mail + messages m e x.mail
+-- and nothing of router r's is left at the first
+pub record HasPassed {X : Type 0} (nothing : X) (r : ℕ) (from to from2 to2 : ℕ → X) : Type 0 where
+  pub left : from2 r ≡ nothing
+  pub came : to2 r ≡ from r
+  pub stays_from : (k : ℕ) → (k ≡ r → ⊥) → from2 k ≡ from k
+  pub stays_to : (k : ℕ) → (k ≡ r → ⊥) → to2 k ≡ to k
 
-  -- and of antimessages
-  abbrev pub antimessages_near : Board E → Place E → E → ℕ
-  antimessages_near x p e = antimessages m e p.mail + antimessages m e x.mail
+module _ {E : Type 0} where
+  -- what a place has sent and hands out is as it was
+  pub record KeepsSent (p q : Place E) : Type 0 where
+    pub outgoing : q.outgoing ≡ p.outgoing
+    pub unsent : q.unsent ≡ p.unsent
+
+  -- no commit is beyond the bound that the place knows, and that is not beyond the board's
+  pub record IsWithin (bound : ℕ) (p : Place E) : Type 0 where
+    pub done : (k : ℕ) → p.done k ≤ p.bound
+    pub known : p.bound ≤ bound
+
+  -- a worker's report has fallen to the bound, and the rest of the board but its mail stays
+  pub record HasReopened (w : ℕ) (x y : Board E) : Type 0 where
+    pub report : report_of w y ≡ Some x.bound
+    pub reports : (v : ℕ) → (v ≡ w → ⊥) → report_of v y ≡ report_of v x
+    pub workers : workers y ≡ workers x
+    pub bound : y.bound ≡ x.bound
+    pub stop : y.stop ≡ x.stop
+
+module _ {S E : Type 0} (m : Simulation S E) where
+  -- of the messages, or the antimessages, in the mail of places p and q and of the board x, router r's are in q2's now, and those for others stay
+  pub record HasMailMoved (count : E → List (Signed E) → ℕ) (r : ℕ) (x : Board E) (p q : Place E) (y : Board E) (p2 q2 : Place E) : Type 0 where
+    pub gone : HasGone m.dst r (λ e. count e p.mail + count e x.mail) (λ e. count e q.mail) (λ e. count e p2.mail + count e y.mail) (λ e. count e q2.mail)
+    pub stays_from : HasStayed m.dst r (λ e. count e p.mail) (λ e. count e p2.mail)
+    pub stays_to : HasStayed m.dst r (λ e. count e q.mail) (λ e. count e q2.mail)
+    pub stays_between : HasStayed m.dst r (λ e. count e x.mail) (λ e. count e y.mail)
 
   -- router r has gone from p, which is p2 now, to q, which is q2 now, and the board x is y now
   pub record IsMoved (r : ℕ) (x : Board E) (p q : Place E) (y : Board E) (p2 q2 : Place E) : Type 0 where
     -- both are the same workers'
     pub worker_from : p2.worker ≡ p.worker
     pub worker_to : q2.worker ≡ q.worker
-    -- r is the second one's router, and the others stay
-    pub left : p2.owns r ≡ false
-    pub came : q2.owns r ≡ true
-    pub owns_from : (k : ℕ) → (k ≡ r → ⊥) → p2.owns k ≡ p.owns k
-    pub owns_to : (k : ℕ) → (k ≡ r → ⊥) → q2.owns k ≡ q.owns k
-    -- so with what routers have handled
-    pub history_left : p2.history r ≡ []
-    pub history_came : q2.history r ≡ p.history r
-    pub history_from : (k : ℕ) → (k ≡ r → ⊥) → p2.history k ≡ p.history k
-    pub history_to : (k : ℕ) → (k ≡ r → ⊥) → q2.history k ≡ q.history k
-    -- what they have committed, and their room; at the first one nothing is counted for r
+    -- the router, what it has handled and how much of that is committed are the second one's
+    pub owns : HasPassed false r p.owns q.owns p2.owns q2.owns
+    pub history : HasPassed [] r p.history q.history p2.history q2.history
+    pub past : HasPassed 0 r p.past q.past p2.past q2.past
+    -- up to where it is committed, and its room, are known there too
     pub done : HasFollowed r p.done q.done p2.done q2.done
-    pub past_left : p2.past r ≡ 0
-    pub past : HasFollowed r p.past q.past p2.past q2.past
     pub room : HasFollowed r p.room q.room p2.room q2.room
-    -- with what waits for r, and with what is held that r has sent
+    -- what waits for it has gone there, and what is held that it has sent
     pub pending : HaveGone m.dst r (λ e. times m e p.pending) (λ e. times m e q.pending) (λ e. times m e p2.pending) (λ e. times m e q2.pending)
     pub kept : HaveGone m.dst r (λ e. times m e p.kept) (λ e. times m e q.kept) (λ e. times m e p2.kept) (λ e. times m e q2.kept)
     pub held : HaveGone m.src r (λ e. times m e p.held) (λ e. times m e q.held) (λ e. times m e p2.held) (λ e. times m e q2.held)
-    -- and with the messages for r, of the first one's hand and of the mail
-    pub plus : HasGone m.dst r (messages_near x p) (λ e. messages m e q.mail) (messages_near y p2) (λ e. messages m e q2.mail)
-    pub plus_from : HasStayed m.dst r (λ e. messages m e p.mail) (λ e. messages m e p2.mail)
-    pub plus_to : HasStayed m.dst r (λ e. messages m e q.mail) (λ e. messages m e q2.mail)
-    pub plus_left : HasStayed m.dst r (λ e. messages m e x.mail) (λ e. messages m e y.mail)
-    pub minus : HasGone m.dst r (antimessages_near x p) (λ e. antimessages m e q.mail) (antimessages_near y p2) (λ e. antimessages m e q2.mail)
-    pub minus_from : HasStayed m.dst r (λ e. antimessages m e p.mail) (λ e. antimessages m e p2.mail)
-    pub minus_to : HasStayed m.dst r (λ e. antimessages m e q.mail) (λ e. antimessages m e q2.mail)
-    pub minus_left : HasStayed m.dst r (λ e. antimessages m e x.mail) (λ e. antimessages m e y.mail)
+    -- and the mail for it, from the first one's hand and from the board
+    pub plus : HasMailMoved (messages m) r x p q y p2 q2
+    pub minus : HasMailMoved (antimessages m) r x p q y p2 q2
     -- what either has sent stays in its hand
-    pub outgoing_from : p2.outgoing ≡ p.outgoing
-    pub outgoing_to : q2.outgoing ≡ q.outgoing
-    pub unsent_from : p2.unsent ≡ p.unsent
-    pub unsent_to : q2.unsent ≡ q.unsent
-    -- no commit is beyond the bound that its place knows, and that is not beyond the board's
-    pub done_from : (k : ℕ) → p2.done k ≤ p2.bound
-    pub done_to : (k : ℕ) → q2.done k ≤ q2.bound
-    pub bound_from : p2.bound ≤ x.bound
-    pub bound_to : q2.bound ≤ x.bound
-    -- the second worker's report has fallen to the bound, and the rest of the board stays
-    pub report : report_of q.worker y ≡ Some x.bound
-    pub reports : (v : ℕ) → (v ≡ q.worker → ⊥) → report_of v y ≡ report_of v x
-    pub workers : workers y ≡ workers x
-    pub bound : y.bound ≡ x.bound
-    pub stop : y.stop ≡ x.stop
+    pub sent_from : KeepsSent p p2
+    pub sent_to : KeepsSent q q2
+    pub within_from : IsWithin x.bound p2
+    pub within_to : IsWithin x.bound q2
+    pub board : HasReopened q.worker x y

@@ -15,8 +15,8 @@ use Rattle.tw_run.specs.Threaded.{LacksThread, LeavesThreaded, LeavesThreadedFor
 use Rattle.tw_run.specs.declared.cause.Stopped.{Stopped}
 use Rattle.tw_run.specs.declared.cause.Stopped.TheVariants.{Memory, NoThread, Full}
 use Rattle.tw_seq.specs.Run.{GetsStuck}
+use Rattle.tw_lines.specs.declared.text_fault.TextFault.{TextFault}
 use Rattle.tw_text.specs.Reading.{case_of}
-use Rattle.tw_text.specs.declared.text_fault.TextFault.{TextFault}
 
 pub leaves_told : (why : Stopped AFullCounter) (case : Case) (asked : AnAsked) (output : Output) (old : Option (List ℕ)) (failed : Bool) → failed ≡ false
     → MayStop case asked why → LeavesThreaded (Err (cause_of why)) output (GetsStuck case asked.report.stop) old old failed

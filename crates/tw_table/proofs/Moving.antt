@@ -15,7 +15,7 @@ use Rattle.tw_model.specs.Case.{Case, IsCase, simulation}
 use Rattle.tw_model.specs.State.{State}
 use Rattle.tw_rule.proofs.Moved.{rule_moves}
 use Rattle.tw_rule.proofs.Same.{machine_moves}
-use Rattle.tw_rule.specs.Moving.{HasFollowed, HaveGone, IsMoved}
+use Rattle.tw_rule.specs.Moving.{HasFollowed, HasPassed, HaveGone, IsMoved}
 use Rattle.tw_rule.specs.Place.{Place}
 use Rattle.tw_rule.specs.Rule.{Rule, Stands, assembled}
 use Rattle.tw_shard.specs.Moving.{HasMovedIn, HasMovedOut}
@@ -183,6 +183,11 @@ module _ (case : Case) (is : IsCase case) (r : ℕ) (x : Board) (s t s2 t2 : Sha
     stays_to = λ k ne. stays_came read nothing r k s.shard t.shard t2.shard moved.came (came_other k ne);
   }
 
+  passes : {X : Type 0} (read : Timeline → X) (nothing : X) → HasPassed nothing r (at read nothing s.shard) (at read nothing t.shard) (at read nothing s2.shard) (at read nothing t2.shard)
+  passes read nothing =
+      let there = follows read nothing in
+      record { left = none_left read nothing r s.shard s2.shard gone; came = there.came; stays_from = there.stays_from; stays_to = there.stays_to }
+
   -- events that a test of the router tells apart
   have_gone : (whose : Event → ℕ) (from to from2 to2 : List Event) → from2 ≡ filter (λ e. not (whose e == r)) from → to2 ≡ insert_all event_before (filter (λ e. whose e == r) from) to
       → HaveGone whose r (λ e. times (simulation case) e from) (λ e. times (simulation case) e to) (λ e. times (simulation case) e from2) (λ e. times (simulation case) e to2)
@@ -269,64 +274,59 @@ module _ (case : Case) (is : IsCase case) (r : ℕ) (x : Board) (s t s2 t2 : Sha
       record {
         worker_from = ap (λ x. x.worker) moved.left.terms;
         worker_to = ap (λ x. x.worker) moved.came.terms;
-        left = gone;
-        came = here;
-        owns_from = left_other;
-        owns_to = came_other;
-        history_left = none_left history [] r s.shard s2.shard gone;
-        history_came = (follows history []).came;
-        history_from = (follows history []).stays_from;
-        history_to = (follows history []).stays_to;
+        owns = record { left = gone; came = here ∙ sym mine; stays_from = left_other; stays_to = came_other };
+        history = passes history [];
+        past = passes (λ l. length l.past) 0;
         done = follows (λ l. l.done) 0;
-        past_left = none_left (λ l. length l.past) 0 r s.shard s2.shard gone;
-        past = follows (λ l. length l.past) 0;
         room = follows (λ l. l.room) OPENING_ROOM;
         pending = have_gone (λ e. e.dst) s.shard.pending t.shard.pending s2.shard.pending t2.shard.pending moved.left.pending moved.came.pending;
         kept = have_gone (λ e. e.dst) s.shard.kept t.shard.kept s2.shard.kept t2.shard.kept moved.left.kept moved.came.kept;
         held = have_gone (λ e. e.src) s.shard.held t.shard.held s2.shard.held t2.shard.held moved.left.held moved.came.held;
-        plus = λ e of_r. (
-            let is_r : (e.dst == r) ≡ true = eq-eqb e.dst r of_r in
-            let a = ap (messages m e) moved.mail_left ∙ plus_no case is for_another e (ap not is_r) s.mail in
-            let b = ap (messages m e) mail_left ∙ plus_no case is for_another e (ap not is_r) (all_mail x) in
-            let c = plus_came e in
-            let d = plus_yes case is for_it e is_r s.mail in
-            let f = plus_yes case is for_it e is_r (all_mail x) in
-            ((omega arith), (omega arith)));
-        plus_from = λ e ne. ap (messages m e) moved.mail_left ∙ plus_yes case is for_another e (ap not (ne_eqb e.dst r ne)) s.mail;
-        plus_to = λ e ne. (
-            let c = plus_came e in
-            let d = plus_no case is for_it e (ne_eqb e.dst r ne) s.mail in
-            let f = plus_no case is for_it e (ne_eqb e.dst r ne) (all_mail x) in
-            omega arith);
-        plus_left = λ e ne. ap (messages m e) mail_left ∙ plus_yes case is for_another e (ap not (ne_eqb e.dst r ne)) (all_mail x);
-        minus = λ e of_r. (
-            let is_r : (e.dst == r) ≡ true = eq-eqb e.dst r of_r in
-            let a = ap (antimessages m e) moved.mail_left ∙ minus_no case is for_another e (ap not is_r) s.mail in
-            let b = ap (antimessages m e) mail_left ∙ minus_no case is for_another e (ap not is_r) (all_mail x) in
-            let c = minus_came e in
-            let d = minus_yes case is for_it e is_r s.mail in
-            let f = minus_yes case is for_it e is_r (all_mail x) in
-            ((omega arith), (omega arith)));
-        minus_from = λ e ne. ap (antimessages m e) moved.mail_left ∙ minus_yes case is for_another e (ap not (ne_eqb e.dst r ne)) s.mail;
-        minus_to = λ e ne. (
-            let c = minus_came e in
-            let d = minus_no case is for_it e (ne_eqb e.dst r ne) s.mail in
-            let f = minus_no case is for_it e (ne_eqb e.dst r ne) (all_mail x) in
-            omega arith);
-        minus_left = λ e ne. ap (antimessages m e) mail_left ∙ minus_yes case is for_another e (ap not (ne_eqb e.dst r ne)) (all_mail x);
-        outgoing_from = moved.left.outgoing;
-        outgoing_to = moved.came.outgoing;
-        unsent_from = moved.unsent_left;
-        unsent_to = moved.unsent_came;
-        done_from = done_left;
-        done_to = done_came;
-        bound_from = (let a = moved.left.bound in let b = stands_s.bound in omega arith);
-        bound_to = bound_came.0;
-        report = get_or-set_same x.reports t.shard.terms.worker (Some x.bound) None stands_t.worker;
-        reports = λ v ne. get_or-set_other x.reports t.shard.terms.worker v (Some x.bound) None ne;
-        workers = length-set x.reports t.shard.terms.worker (Some x.bound);
-        bound = refl;
-        stop = refl;
+        plus = record {
+          gone = λ e of_r. (
+              let is_r : (e.dst == r) ≡ true = eq-eqb e.dst r of_r in
+              let a = ap (messages m e) moved.mail_left ∙ plus_no case is for_another e (ap not is_r) s.mail in
+              let b = ap (messages m e) mail_left ∙ plus_no case is for_another e (ap not is_r) (all_mail x) in
+              let c = plus_came e in
+              let d = plus_yes case is for_it e is_r s.mail in
+              let f = plus_yes case is for_it e is_r (all_mail x) in
+              ((omega arith), (omega arith)));
+          stays_from = λ e ne. ap (messages m e) moved.mail_left ∙ plus_yes case is for_another e (ap not (ne_eqb e.dst r ne)) s.mail;
+          stays_to = λ e ne. (
+              let c = plus_came e in
+              let d = plus_no case is for_it e (ne_eqb e.dst r ne) s.mail in
+              let f = plus_no case is for_it e (ne_eqb e.dst r ne) (all_mail x) in
+              omega arith);
+          stays_between = λ e ne. ap (messages m e) mail_left ∙ plus_yes case is for_another e (ap not (ne_eqb e.dst r ne)) (all_mail x);
+        };
+        minus = record {
+          gone = λ e of_r. (
+              let is_r : (e.dst == r) ≡ true = eq-eqb e.dst r of_r in
+              let a = ap (antimessages m e) moved.mail_left ∙ minus_no case is for_another e (ap not is_r) s.mail in
+              let b = ap (antimessages m e) mail_left ∙ minus_no case is for_another e (ap not is_r) (all_mail x) in
+              let c = minus_came e in
+              let d = minus_yes case is for_it e is_r s.mail in
+              let f = minus_yes case is for_it e is_r (all_mail x) in
+              ((omega arith), (omega arith)));
+          stays_from = λ e ne. ap (antimessages m e) moved.mail_left ∙ minus_yes case is for_another e (ap not (ne_eqb e.dst r ne)) s.mail;
+          stays_to = λ e ne. (
+              let c = minus_came e in
+              let d = minus_no case is for_it e (ne_eqb e.dst r ne) s.mail in
+              let f = minus_no case is for_it e (ne_eqb e.dst r ne) (all_mail x) in
+              omega arith);
+          stays_between = λ e ne. ap (antimessages m e) mail_left ∙ minus_yes case is for_another e (ap not (ne_eqb e.dst r ne)) (all_mail x);
+        };
+        sent_from = record { outgoing = moved.left.outgoing; unsent = moved.unsent_left };
+        sent_to = record { outgoing = moved.came.outgoing; unsent = moved.unsent_came };
+        within_from = record { done = done_left; known = (let a = moved.left.bound in let b = stands_s.bound in omega arith) };
+        within_to = record { done = done_came; known = bound_came.0 };
+        board = record {
+          report = get_or-set_same x.reports t.shard.terms.worker (Some x.bound) None stands_t.worker;
+          reports = λ v ne. get_or-set_other x.reports t.shard.terms.worker v (Some x.bound) None ne;
+          workers = length-set x.reports t.shard.terms.worker (Some x.bound);
+          bound = refl;
+          stop = refl;
+        };
       }
 
 -- ---- and the rule is kept

@@ -17,16 +17,16 @@ use Rattle.tw_model.specs.Case.{Case, IsCase, bare_case}
 use Rattle.tw_model.specs.Memory.{IsUnlessMemory, map_fault}
 use Rattle.tw_model.specs.Net.{Net, paths_of}
 use Rattle.tw_model.specs.Rules.{has_line, has_place, is_within, link_fault, scene_breaks, scene_fault}
+use Rattle.tw_lines.specs.declared.text_fault.LineFault.{LineFault}
+use Rattle.tw_lines.specs.declared.text_fault.LineFault.TheVariants as x
+use Rattle.tw_lines.proofs.Steps.{passed}
 use Rattle.tw_text.specs.declared.draft.Draft.{Draft}
 use Rattle.tw_text.specs.declared.draft.Draft.TheVariants.{Start, Header, Links, Paths, Scenes, Done}
 use Rattle.tw_text.specs.declared.keyword.Keyword.{Keyword}
 use Rattle.tw_text.specs.declared.keyword.Keyword.TheVariants as keyword
-use Rattle.tw_text.specs.declared.text_fault.LineFault.{LineFault}
-use Rattle.tw_text.specs.declared.text_fault.LineFault.TheVariants as x
 use Rattle.tw_text.specs.Drafts.{before_links, before_scenes, node_in, nodes_in, of_rule, place_of, step_by, step_said, with_end, with_link, with_path, with_scene}
 use Rattle.tw_text.specs.FaultTable.{unless_fault}
 use Rattle.tw_text.specs.Statements.{end_line, link_line, scene_line, scene_said, scene_with, statement_with}
-use Rattle.tw_text.proofs.Steps.{passed}
 
 pub refused : {A : Type 0} (result : Result A (OrMemory Rule)) (e : OrMemory Rule) (f : OrMemory LineFault) (fault : Option Rule) (next : Draft) → result ≡ Err e → f ≡ map_fault (λ r. x.Rule r) e
     → ((r : Rule) → (result ≡ Err (Fault r)) ↔ (fault ≡ Some r)) → IsUnlessMemory (Err f) (unless_fault (of_rule fault) next)

@@ -1,8 +1,8 @@
 -- What words say is told by their first two faults: they are none of a line, or one of them is no number.
 use Rattle.std.proofs.Common.{Bool, true, false, if◌then◌else◌, Result, Ok, Err}
-use Rattle.tw_text.specs.declared.text_fault.LineFault.{LineFault}
-use Rattle.tw_text.specs.declared.text_fault.LineFault.TheVariants as x
-use Rattle.tw_text.specs.Statements.{◌>>=◌}
+use Rattle.tw_lines.specs.declared.text_fault.LineFault.{LineFault}
+use Rattle.tw_lines.specs.declared.text_fault.LineFault.TheVariants as x
+use Rattle.tw_lines.specs.Reading.{◌>>=◌}
 
 -- words say something, or are none of a line, or have a word that is no number
 abbrev pub IsToldEarly : {S : Type 0} → Result S LineFault → Type 0

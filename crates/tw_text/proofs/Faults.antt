@@ -6,18 +6,18 @@ use Rattle.std.specs.Option.{is_some}
 use Rattle.std.specs.Str.Parse.{digits_value}
 use Rattle.tw_model.specs.Rules.{rules_in_order}
 use Rattle.tw_model.specs.declared.rule.Rule.{Rule}
+use Rattle.tw_lines.specs.declared.text_fault.LineFault.{LineFault}
+use Rattle.tw_lines.specs.declared.text_fault.LineFault.TheVariants as x
+use Rattle.tw_lines.specs.Words.{is_number, is_plain, words}
 use Rattle.tw_text.specs.declared.draft.Draft.{Draft}
 use Rattle.tw_text.specs.declared.draft.Draft.TheVariants.{Start, Header}
 use Rattle.tw_text.specs.declared.keyword.Keyword.{Keyword}
 use Rattle.tw_text.specs.declared.keyword.Keyword.TheVariants as keyword
-use Rattle.tw_text.specs.declared.text_fault.LineFault.{LineFault}
-use Rattle.tw_text.specs.declared.text_fault.LineFault.TheVariants as x
 use Rattle.tw_text.specs.Drafts.{of_rule, step_said}
 use Rattle.tw_text.specs.FaultTable.{breaks, draft_after, fault_of, from_second, has_no_number, holds, if_said, is_done, is_misplaced, is_no_statement, is_start, said_after, version_in}
 use Rattle.tw_text.specs.FaultTable.{unless_fault, with_header, with_line, with_said, with_statement}
 use Rattle.tw_text.specs.Statements.{Statement, scene_line, takes_words, keyword_before, keyword_of, numbers_of, scene_with, statement_with, statement_of}
 use Rattle.tw_text.specs.Versions.{version_of}
-use Rattle.tw_text.specs.Words.{is_number, is_plain, words}
 use Rattle.tw_text.proofs.Early.{IsToldEarly, early_if, early_on}
 
 -- the lowest rule, among the faults

@@ -15,23 +15,23 @@ use Rattle.tw_model.specs.declared.rule.Rule.{Rule}
 use Rattle.tw_model.specs.declared.limits.TheConstants.{LATEST_VERSION}
 use Rattle.tw_model.proofs.Grown.{case_alone, case_with_scene, net_alone, net_with_link, net_with_path}
 use Rattle.tw_sim.proofs.Members.{In, in_find}
+use Rattle.tw_lines.specs.declared.text_fault.LineFault.{LineFault}
+use Rattle.tw_lines.specs.declared.text_fault.LineFault.TheVariants as x
+use Rattle.tw_lines.specs.Words.{ended_line, words}
+use Rattle.tw_lines.proofs.Parts.{PreservesDraft, follows_kept, text_read}
+use Rattle.tw_lines.proofs.Splits.{join-words}
+use Rattle.tw_lines.proofs.Steps.{bound}
 use Rattle.tw_text.specs.declared.draft.Draft.{Draft}
 use Rattle.tw_text.specs.declared.draft.Draft.TheVariants.{Start, Header, Links, Paths, Scenes, Done}
-use Rattle.tw_text.specs.declared.text_fault.LineFault.{LineFault}
-use Rattle.tw_text.specs.declared.text_fault.LineFault.TheVariants as x
 use Rattle.tw_text.specs.Drafts.{fault_after, of_rule, step_by}
 use Rattle.tw_text.specs.FaultTable.{breaks, draft_after, is_done, is_misplaced, is_start, said_after, unless_fault, version_in, with_statement}
 use Rattle.tw_text.specs.Reading.{case_of, case_reader, whole_case}
 use Rattle.tw_text.specs.Statements.{Statement, nodes_line, link_line, path_line, scene_line, end_line}
-use Rattle.tw_text.specs.Text.{ended_line, line_of, statements_of, text_of_case}
+use Rattle.tw_text.specs.Text.{line_of, statements_of, text_of_case}
 use Rattle.tw_text.specs.Versions.{header, version_of}
-use Rattle.tw_text.specs.Words.{words}
 use Rattle.tw_text.proofs.Faults.{later_step, plain-from_step, start_step, started}
 use Rattle.tw_text.proofs.Lines.{Fits}
-use Rattle.tw_text.proofs.Parts.{PreservesDraft, follows_kept, text_read}
 use Rattle.tw_text.proofs.Said.{statement_of-is}
-use Rattle.tw_text.proofs.Splits.{join-words}
-use Rattle.tw_text.proofs.Steps.{bound}
 
 -- what the lines have said that gave these, from line 2 on
 abbrev statements_from : Net → List Scene → List Statement

@@ -1,14 +1,9 @@
-pub mod Steps
 pub mod Numbers
-pub mod Numerals
-pub mod Splits
 pub mod Shapes
 pub mod Said
 pub mod Early
 pub mod Faults
 pub mod Adding
-pub mod Reading
-pub mod Parts
 pub mod Lines
 pub mod Short
 pub mod Only
@@ -22,5 +17,4 @@ pub mod Told
 pub mod ReplayTold
 pub mod Digits
 pub mod PathLines
-pub mod FirstBytes
 pub mod Judged

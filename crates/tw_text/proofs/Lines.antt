@@ -2,15 +2,15 @@
 use Rattle.std.proofs.Common.{◌≡◌, ℕ, true, false, None, Ok, refl, ap, ◌∙◌, map, decimal}
 use Rattle.std.specs.List.{find, list_all}
 use Rattle.tw_model.specs.Rules.{rules_in_order}
+use Rattle.tw_lines.specs.Words.{is_plain, words}
+use Rattle.tw_lines.proofs.Splits.{join-plain, words-join}
 use Rattle.tw_text.specs.declared.draft.Draft.{Draft}
 use Rattle.tw_text.specs.Drafts.{step_said}
 use Rattle.tw_text.specs.FaultTable.{breaks, draft_after, is_done, is_misplaced, is_start, version_in, with_statement}
 use Rattle.tw_text.specs.Statements.{Statement, statement_of, word_of}
 use Rattle.tw_text.specs.Text.{keyword_in, line_of, numbers_in, words_of}
-use Rattle.tw_text.specs.Words.{is_plain, words}
 use Rattle.tw_text.proofs.Faults.{later_step}
 use Rattle.tw_text.proofs.Said.{IsSayable, statement_of-words, words-are}
-use Rattle.tw_text.proofs.Splits.{join-plain, words-join}
 
 words-line : (version : ℕ) (s : Statement) → IsSayable version s → words (line_of version s) ≡ words_of version s
 words-line version s h = words-join (word_of (keyword_in version s)) (map decimal (numbers_in version s)) (words-are version s h)

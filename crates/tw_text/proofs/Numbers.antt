@@ -1,20 +1,15 @@
--- Digits and numbers that are read one by one.
-use Rattle.std.proofs.Common.{◌≡◌, ℕ, ◌+◌, ◌<◌, true, false, List, [], ◌∷◌, ◌++◌, length, get_or, take, map, if◌then◌else◌, Option, Some, None, Ok, Err, refl, ap, sym, ◌∙◌}
+-- Numbers that are read one by one.
+use Rattle.std.proofs.Common.{◌≡◌, ℕ, ◌+◌, ◌<◌, true, false, List, [], ◌∷◌, ◌++◌, length, get_or, take, map, Ok, Err, refl, ap, sym, ◌∙◌}
 use Rattle.std.proofs.lemmas.List.{map-append, take_more}
 use Rattle.std.proofs.lemmas.List.Folds.{list_all-append, list_all-map, list_all_at}
 use Rattle.std.specs.Borrow.{Bor}
-use Rattle.std.specs.Char.{is_ascii_digit}
 use Rattle.std.specs.List.{list_all}
-use Rattle.std.specs.Str.Parse.{digits_value, digits_value_after}
-use Rattle.tw_text.specs.declared.text_fault.LineFault.{LineFault}
-use Rattle.tw_text.specs.declared.text_fault.LineFault.TheVariants.{Number}
-use Rattle.tw_text.specs.Statements.{number_of, numbers_of}
-use Rattle.tw_text.specs.Words.{is_number}
-use Rattle.tw_text.proofs.Steps.{failed, passed}
-
--- the number that these digits write behind those of n, if they are digits
-abbrev pub number_after : ℕ → List ℕ → Option ℕ
-number_after n ds = if list_all is_ascii_digit ds then Some (digits_value_after 10 n ds) else None
+use Rattle.std.specs.Str.Parse.{digits_value}
+use Rattle.tw_lines.specs.declared.text_fault.LineFault.{LineFault}
+use Rattle.tw_lines.specs.declared.text_fault.LineFault.TheVariants.{Number}
+use Rattle.tw_lines.specs.Words.{is_number, number_of}
+use Rattle.tw_lines.proofs.Steps.{failed, passed}
+use Rattle.tw_text.specs.Statements.{numbers_of}
 
 -- these are the numbers of the first i words
 pub record AreRead (ws : List (Bor (List ℕ))) (i : ℕ) (ns : List ℕ) : Type 0 where

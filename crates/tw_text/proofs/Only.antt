@@ -14,6 +14,8 @@ use Rattle.tw_model.specs.declared.case.Scene.{Scene}
 use Rattle.tw_model.specs.declared.limits.TheConstants.{LATEST_VERSION, MOST_ROUTERS}
 use Rattle.tw_model.specs.declared.net.Link.{Link}
 use Rattle.tw_model.specs.declared.rule.Rule.TheVariants.{Version}
+use Rattle.tw_lines.specs.Words.{is_plain}
+use Rattle.tw_lines.proofs.Parts.{Follows, IsPlainReader, text_reads}
 use Rattle.tw_text.specs.declared.draft.Draft.{Draft}
 use Rattle.tw_text.specs.declared.draft.Draft.TheVariants.{Start, Header, Links, Paths, Scenes, Done}
 use Rattle.tw_text.specs.FaultTable.{draft_after, is_done, is_misplaced, is_start, net_of, scenes_of, version_in, with_statement}
@@ -21,10 +23,8 @@ use Rattle.tw_text.specs.Reading.{case_of, case_reader}
 use Rattle.tw_text.specs.Statements.{Statement, nodes_line, link_line, path_line, scene_line, end_line}
 use Rattle.tw_text.specs.Text.{line_of, lines_of, statements_of, text_of_case}
 use Rattle.tw_text.specs.Versions.{header, version_of}
-use Rattle.tw_text.specs.Words.{is_plain}
 use Rattle.tw_text.proofs.Faults.{plain-from_step, start_step}
 use Rattle.tw_text.proofs.Lines.{Fits, line-step}
-use Rattle.tw_text.proofs.Parts.{Follows, IsPlainReader, text_reads}
 use Rattle.tw_text.proofs.Said.{IsSayable}
 use Rattle.tw_text.proofs.Short.{link_short, nodes_short, path_short, scene_short}
 

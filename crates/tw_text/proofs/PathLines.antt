@@ -11,6 +11,9 @@ use Rattle.std.specs.Char.{is_ascii_digit}
 use Rattle.std.specs.Cmp.Lexicographic.{bytes_decides}
 use Rattle.std.specs.List.{find, list_all, list_any}
 use Rattle.std.specs.Str.Parse.{digits_value}
+use Rattle.tw_lines.specs.Reading.{◌>>=◌}
+use Rattle.tw_lines.specs.Words.{is_number, is_plain, words}
+use Rattle.tw_lines.proofs.Splits.{all_plain, digits_are_signs, no_space}
 use Rattle.tw_text.specs.declared.keyword.Keyword.TheVariants as keyword
 use Rattle.tw_model.specs.Net.{Net}
 use Rattle.tw_model.specs.PermittedPath.{PermittedPath}
@@ -18,11 +21,9 @@ use Rattle.tw_text.specs.declared.draft.Draft.TheVariants.{Paths}
 use Rattle.tw_text.specs.Drafts.{step_said, with_path}
 use Rattle.tw_text.specs.FaultTable.{draft_after}
 use Rattle.tw_text.specs.PathLine.{AreNumbers, BeginsWith, IsPathLine}
-use Rattle.tw_text.specs.Statements.{◌>>=◌, keyword_before, keyword_of, numbers_of, statement_of, statement_with, word_of}
+use Rattle.tw_text.specs.Statements.{keyword_before, keyword_of, numbers_of, statement_of, statement_with, word_of}
 use Rattle.tw_text.specs.Versions.{first_keywords, second_keywords}
-use Rattle.tw_text.specs.Words.{is_number, is_plain, words}
 use Rattle.tw_text.proofs.Faults.{later_step}
-use Rattle.tw_text.proofs.Splits.{all_plain, digits_are_signs, no_space}
 
 -- a number is plain and has no space
 digits_in : (w : List ℕ) → is_number w ≡ true → list_all is_ascii_digit w ≡ true

@@ -9,24 +9,25 @@ use Rattle.tw_model.specs.Case.{Case, IsCase}
 use Rattle.tw_model.specs.declared.memory.OrMemory.{OrMemory}
 use Rattle.tw_model.specs.Memory.{IsUnlessMemory}
 use Rattle.tw_sim.specs.declared.machine.Step.{Step}
+use Rattle.tw_lines.specs.declared.text_fault.TextFault.{TextFault}
+use Rattle.tw_lines.specs.Reading.{◌>>=◌}
+use Rattle.tw_lines.specs.Words.{ended_line}
+use Rattle.tw_lines.proofs.Parts.{Follows, IsPlainReader, PreservesDraft, follows_kept, follows_on, text_read, text_reads}
+use Rattle.tw_lines.proofs.Steps.{bound}
 use Rattle.tw_text.specs.declared.draft.Draft.{Draft}
 use Rattle.tw_text.specs.declared.draft.Draft.TheVariants.{Start, Header, Links, Paths, Scenes, Done}
 use Rattle.tw_text.specs.declared.replay_text.ReplayDraft.{ReplayDraft}
 use Rattle.tw_text.specs.declared.replay_text.ReplayDraft.TheVariants as replay
 use Rattle.tw_text.specs.declared.step_text.StepDraft.{StepDraft}
 use Rattle.tw_text.specs.declared.step_text.StepDraft.TheVariants as steps
-use Rattle.tw_text.specs.declared.text_fault.TextFault.{TextFault}
 use Rattle.tw_text.specs.FaultTable.{draft_after, is_done}
 use Rattle.tw_text.specs.Reading.{case_reader}
 use Rattle.tw_text.specs.ReplayText.{after_case, after_replay_line, replay_of, replay_reader, seen, text_of_replay, whole_replay}
-use Rattle.tw_text.specs.Statements.{◌>>=◌}
 use Rattle.tw_text.specs.StepText.{HasText, after_line, lines_of_steps, step_reader, text_of_steps}
-use Rattle.tw_text.specs.Text.{ended_line, lines_of, text_of_case}
+use Rattle.tw_text.specs.Text.{lines_of, text_of_case}
 use Rattle.tw_text.proofs.Found.{IsDraft, lines_in, steps, undone}
 use Rattle.tw_text.proofs.Only.{case_plain, leads_case}
-use Rattle.tw_text.proofs.Parts.{Follows, IsPlainReader, PreservesDraft, follows_kept, follows_on, text_read, text_reads}
 use Rattle.tw_text.proofs.StepTold.{IsStepDraft, leads_steps, no_steps, step_lines_in, steps_kept, steps_plain}
-use Rattle.tw_text.proofs.Steps.{bound}
 
 -- a line of the case text, or of the step text
 case_line : (d : Draft) (after : ReplayDraft) (l : List ℕ) → (draft_after d l true >>= λ next. let r : Result ReplayDraft _ = Ok (after_case next) in r) ≡ Ok after

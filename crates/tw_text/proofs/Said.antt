@@ -12,19 +12,20 @@ use Rattle.tw_model.specs.declared.case.Scene.TheVariants.{Allow, Fail, Forbid, 
 use Rattle.tw_model.specs.declared.net.Link.{Link}
 use Rattle.tw_model.specs.Rules.{is_first_link, is_first_scene}
 use Rattle.tw_sim.proofs.Members.{In, in_find}
+use Rattle.tw_lines.specs.declared.text_fault.LineFault.{LineFault}
+use Rattle.tw_lines.specs.declared.text_fault.LineFault.TheVariants as x
+use Rattle.tw_lines.specs.Reading.{◌>>=◌}
+use Rattle.tw_lines.specs.Words.{is_number}
+use Rattle.tw_lines.proofs.Numerals.{decimal-digits, decimal-form, decimal-some, number_is, value-decimal}
+use Rattle.tw_lines.proofs.Splits.{IsWord, digits_are_signs, none_empty}
+use Rattle.tw_lines.proofs.Steps.{bound, passed}
 use Rattle.tw_text.specs.declared.keyword.Keyword.{Keyword}
 use Rattle.tw_text.specs.declared.keyword.Keyword.TheVariants as keyword
-use Rattle.tw_text.specs.declared.text_fault.LineFault.{LineFault}
-use Rattle.tw_text.specs.declared.text_fault.LineFault.TheVariants as x
-use Rattle.tw_text.specs.Statements.{◌>>=◌, Statement, nodes_line, link_line, path_line, scene_line}
+use Rattle.tw_text.specs.Statements.{Statement, nodes_line, link_line, path_line, scene_line}
 use Rattle.tw_text.specs.Statements.{end_line, takes_words, keyword_before, keyword_of, numbers_of, scene_with, statement_with, statement_of, takes, word_of}
 use Rattle.tw_text.specs.Text.{keyword_in, numbers_in, scene_keyword, scene_numbers, words_of}
 use Rattle.tw_model.specs.declared.limits.TheConstants.{MOST_DIGITS}
 use Rattle.tw_text.specs.Versions.{first_keywords, keywords, second_keywords}
-use Rattle.tw_text.specs.Words.{is_number}
-use Rattle.tw_text.proofs.Numerals.{decimal-digits, decimal-form, decimal-some, number_is, value-decimal}
-use Rattle.tw_text.proofs.Splits.{IsWord, digits_are_signs, none_empty}
-use Rattle.tw_text.proofs.Steps.{bound, passed}
 
 -- ---- from a statement to its words and back
 

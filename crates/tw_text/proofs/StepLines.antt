@@ -5,16 +5,16 @@ use Rattle.std.proofs.lemmas.Bool.{cases_Bool}
 use Rattle.std.specs.List.{list_all}
 use Rattle.std.specs.Str.Parse.{digits_value}
 use Rattle.tw_model.specs.declared.rule.Rule.TheVariants.{TooMany}
+use Rattle.tw_lines.specs.declared.text_fault.LineFault.{LineFault}
+use Rattle.tw_lines.specs.declared.text_fault.LineFault.TheVariants as x
+use Rattle.tw_lines.specs.Reading.{◌>>=◌}
+use Rattle.tw_lines.specs.Words.{is_number, is_plain, number_of, words}
+use Rattle.tw_lines.proofs.Steps.{bound}
 use Rattle.tw_text.specs.declared.step_text.StepDraft.{StepDraft}
 use Rattle.tw_text.specs.declared.step_text.StepLine.{StepLine}
-use Rattle.tw_text.specs.declared.text_fault.LineFault.{LineFault}
-use Rattle.tw_text.specs.declared.text_fault.LineFault.TheVariants as x
 use Rattle.tw_text.specs.FaultTable.{has_no_number, if_said, is_no_statement, unless_fault, with_said}
-use Rattle.tw_text.specs.Statements.{◌>>=◌, number_of}
 use Rattle.tw_text.specs.StepText.{after_line, after_said, after_words, is_ended, is_past_most, router_of, said_by, said_with, step_fault, with_step_line}
-use Rattle.tw_text.specs.Words.{is_number, is_plain, words}
 use Rattle.tw_text.proofs.Early.{IsToldEarly, early_if, early_on}
-use Rattle.tw_text.proofs.Steps.{bound}
 
 -- the table, by what the line says
 abbrev form : StepDraft → Bool → Bool → Result StepLine LineFault → Option LineFault

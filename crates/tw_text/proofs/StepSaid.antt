@@ -7,18 +7,18 @@ use Rattle.std.specs.List.{AllByRecursion, join_with_byte, list_all}
 use Rattle.std.specs.Str.Parse.{digits_value}
 use Rattle.tw_sim.specs.declared.machine.Step.{Step}
 use Rattle.tw_sim.specs.declared.machine.Step.TheVariants.{Handle, Undo, Deliver, Bound, Commit, Release}
+use Rattle.tw_lines.specs.declared.text_fault.LineFault.{LineFault}
+use Rattle.tw_lines.specs.declared.text_fault.LineFault.TheVariants as x
+use Rattle.tw_lines.specs.Reading.{◌>>=◌}
+use Rattle.tw_lines.specs.Words.{is_number, is_plain, number_of, words}
+use Rattle.tw_lines.proofs.Numerals.{decimal-form, decimal-some, number_is, number_short, value-decimal}
+use Rattle.tw_lines.proofs.Splits.{IsWord, join-plain, join-words, words-join}
+use Rattle.tw_lines.proofs.Steps.{bound, passed}
 use Rattle.tw_text.specs.declared.step_text.StepLine.{StepLine}
 use Rattle.tw_text.specs.declared.step_text.StepLine.TheVariants as line
-use Rattle.tw_text.specs.declared.text_fault.LineFault.{LineFault}
-use Rattle.tw_text.specs.declared.text_fault.LineFault.TheVariants as x
 use Rattle.tw_model.specs.declared.limits.TheConstants.{MOST_DIGITS}
-use Rattle.tw_text.specs.Statements.{◌>>=◌, number_of}
 use Rattle.tw_text.specs.StepText.{HasLine, line_of_step, router_of, said_alone, said_by, said_with, step_with}
-use Rattle.tw_text.specs.Words.{is_number, is_plain, words}
-use Rattle.tw_text.proofs.Numerals.{decimal-form, decimal-some, number_is, number_short, value-decimal}
 use Rattle.tw_text.proofs.Said.{numbers-words}
-use Rattle.tw_text.proofs.Splits.{IsWord, join-plain, join-words, words-join}
-use Rattle.tw_text.proofs.Steps.{bound, passed}
 
 -- the line that says it
 abbrev pub line_text : StepLine → List ℕ

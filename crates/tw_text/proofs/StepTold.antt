@@ -8,16 +8,16 @@ use Rattle.std.specs.declared.vec.Vec.{Vec}
 use Rattle.tw_model.specs.declared.memory.OrMemory.{OrMemory}
 use Rattle.tw_model.specs.Memory.{IsUnlessMemory}
 use Rattle.tw_sim.specs.declared.machine.Step.{Step}
+use Rattle.tw_lines.specs.declared.text_fault.TextFault.{TextFault}
+use Rattle.tw_lines.specs.Words.{ended_line}
+use Rattle.tw_lines.proofs.Parts.{Follows, IsPlainReader, PreservesDraft, follows_kept, text_read, text_reads}
 use Rattle.tw_text.specs.declared.step_text.StepDraft.{StepDraft}
 use Rattle.tw_text.specs.declared.step_text.StepDraft.TheVariants.{Open, Done}
 use Rattle.tw_text.specs.declared.step_text.StepLine.{StepLine}
 use Rattle.tw_text.specs.declared.step_text.StepLine.TheVariants as line
 use Rattle.tw_model.specs.declared.limits.TheConstants.{MOST_STEPS}
-use Rattle.tw_text.specs.declared.text_fault.TextFault.{TextFault}
 use Rattle.tw_text.specs.Drafts.{result_items}
 use Rattle.tw_text.specs.StepText.{HasLine, HasText, after_line, is_ended, is_past_most, line_of_step, lines_of_steps, step_reader, steps_in, steps_of, text_of_steps, whole_steps, with_step_line}
-use Rattle.tw_text.specs.Text.{ended_line}
-use Rattle.tw_text.proofs.Parts.{Follows, IsPlainReader, PreservesDraft, follows_kept, text_read, text_reads}
 use Rattle.tw_text.proofs.StepLines.{line_taken, takes}
 use Rattle.tw_text.proofs.StepSaid.{CanSay, end_said, line_text, line_was, step_said}
 

@@ -13,22 +13,23 @@ use Rattle.tw_model.specs.declared.rule.Rule.TheVariants.{Version}
 use Rattle.tw_model.specs.Net.{Net}
 use Rattle.tw_model.specs.Rules.{is_first_link, is_first_scene, is_within, rules_in_order, scene_breaks, suits_version}
 use Rattle.tw_sim.proofs.Members.{in_find}
+use Rattle.tw_lines.specs.declared.text_fault.LineFault.{LineFault}
+use Rattle.tw_lines.specs.declared.text_fault.LineFault.TheVariants as x
+use Rattle.tw_lines.specs.declared.text_fault.TextFault.{TextFault}
+use Rattle.tw_lines.specs.Reading.{at_line, fault_at, finishes, reads, whole_at, ◌>>=◌}
+use Rattle.tw_lines.specs.Words.{is_plain, parts_of, words}
+use Rattle.tw_lines.proofs.Steps.{bound}
 use Rattle.tw_text.specs.declared.draft.Draft.{Draft}
 use Rattle.tw_text.specs.declared.draft.Draft.TheVariants.{Start}
-use Rattle.tw_text.specs.declared.text_fault.LineFault.{LineFault}
-use Rattle.tw_text.specs.declared.text_fault.LineFault.TheVariants as x
-use Rattle.tw_text.specs.declared.text_fault.TextFault.{TextFault}
 use Rattle.tw_text.specs.Drafts.{fault_after, of_rule, step_by, step_said}
 use Rattle.tw_text.specs.FaultTable.{breaks, draft_after, is_done, is_misplaced, is_start, net_of, said_after, scenes_of, unless_fault, version_in, with_statement}
-use Rattle.tw_text.specs.Reading.{at_line, case_of, case_reader, fault_at, finishes, reads, whole_at}
-use Rattle.tw_text.specs.Statements.{◌>>=◌, Statement, nodes_line, link_line, path_line, scene_line, end_line}
+use Rattle.tw_text.specs.Reading.{case_of, case_reader}
+use Rattle.tw_text.specs.Statements.{Statement, nodes_line, link_line, path_line, scene_line, end_line}
 use Rattle.tw_text.specs.Versions.{version_of}
-use Rattle.tw_text.specs.Words.{is_plain, parts_of, words}
 use Rattle.tw_text.proofs.Early.{IsToldEarly}
 use Rattle.tw_text.proofs.Faults.{early, later_step, plain-from_step, plain_step, start_step, started}
 use Rattle.tw_text.proofs.Found.{header_within, no_fault, started_is}
 use Rattle.tw_text.proofs.Said.{says, statement_of-says}
-use Rattle.tw_text.proofs.Steps.{bound}
 
 -- ---- what the lines before have given is what their version has
 

@@ -3,7 +3,7 @@ use Rattle.std.proofs.Common.{◌≡◌, ◌↔◌, ℕ, List, Result, Ok, Err, 
 use Rattle.tw_model.specs.Case.{Case, IsCase}
 use Rattle.tw_model.specs.declared.memory.OrMemory.{OrMemory}
 use Rattle.tw_model.specs.Memory.{IsUnlessMemory}
-use Rattle.tw_text.specs.declared.text_fault.TextFault.{TextFault}
+use Rattle.tw_lines.specs.declared.text_fault.TextFault.{TextFault}
 use Rattle.tw_text.specs.Reading.{case_of}
 use Rattle.tw_text.specs.Text.{text_of_case}
 use Rattle.tw_text.proofs.Found.{case_of-is}

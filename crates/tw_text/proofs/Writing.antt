@@ -12,8 +12,9 @@ use Rattle.tw_model.specs.PermittedPath.{PermittedPath}
 use Rattle.tw_model.specs.Net.{Net}
 use Rattle.tw_model.specs.declared.case.Scene.{Scene}
 use Rattle.tw_model.specs.declared.net.Link.{Link}
+use Rattle.tw_lines.specs.Words.{ended_line}
 use Rattle.tw_text.specs.Statements.{Statement, nodes_line, link_line, path_line, scene_line, end_line}
-use Rattle.tw_text.specs.Text.{ended_line, line_of, line_of_path, line_of_scene, statements_of, text_of_case}
+use Rattle.tw_text.specs.Text.{line_of, line_of_path, line_of_scene, statements_of, text_of_case}
 use Rattle.tw_text.specs.Versions.{header}
 use Rattle.tw_text.proofs.Only.{is_said}
 use Rattle.tw_model.specs.Rules.{is_within}

@@ -13,12 +13,13 @@ use Rattle.tw_model.specs.declared.limits.TheConstants.{LATEST_VERSION}
 use Rattle.tw_model.specs.declared.net.Link.{Link}
 use Rattle.tw_model.specs.declared.rule.Rule.{Rule}
 use Rattle.tw_model.specs.declared.rule.Rule.TheVariants.{Range}
+use Rattle.tw_lines.specs.declared.text_fault.LineFault.{LineFault}
+use Rattle.tw_lines.specs.declared.text_fault.LineFault.TheVariants as x
+use Rattle.tw_lines.specs.Reading.{◌>>=◌}
 use Rattle.tw_text.specs.declared.draft.Draft.{Draft}
 use Rattle.tw_text.specs.declared.draft.Draft.TheVariants.{Header, Links, Paths, Scenes, Done}
-use Rattle.tw_text.specs.declared.text_fault.LineFault.{LineFault}
-use Rattle.tw_text.specs.declared.text_fault.LineFault.TheVariants as x
 use Rattle.tw_text.specs.FaultTable.{breaks, is_done, is_misplaced, unless_fault, with_statement}
-use Rattle.tw_text.specs.Statements.{◌>>=◌, Statement}
+use Rattle.tw_text.specs.Statements.{Statement}
 
 -- the items of the vector that was returned
 abbrev pub result_items : {A E : Type 0} → Result (Vec A Global) E → Result (List A) E

@@ -7,13 +7,13 @@ use Rattle.tw_model.specs.Rules.{nodes_break, link_breaks, path_breaks, scene_br
 use Rattle.tw_model.specs.declared.case.Scene.{Scene}
 use Rattle.tw_model.specs.declared.limits.TheConstants.{LATEST_VERSION}
 use Rattle.tw_model.specs.declared.rule.Rule.{Rule}
+use Rattle.tw_lines.specs.declared.text_fault.LineFault.{LineFault}
+use Rattle.tw_lines.specs.declared.text_fault.LineFault.TheVariants as x
+use Rattle.tw_lines.specs.Words.{is_plain, words}
 use Rattle.tw_text.specs.declared.draft.Draft.{Draft}
 use Rattle.tw_text.specs.declared.draft.Draft.TheVariants.{Start, Header, Links, Paths, Scenes, Done}
-use Rattle.tw_text.specs.declared.text_fault.LineFault.{LineFault}
-use Rattle.tw_text.specs.declared.text_fault.LineFault.TheVariants as x
 use Rattle.tw_text.specs.Statements.{Statement, nodes_line, link_line, path_line, scene_line, end_line, statement_of}
 use Rattle.tw_text.specs.Versions.{version_of}
-use Rattle.tw_text.specs.Words.{is_plain, words}
 
 -- the version of which line 1 is the header, 0 before it
 abbrev pub version_in : Draft → ℕ

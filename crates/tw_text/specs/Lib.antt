@@ -1,10 +1,7 @@
-pub mod Words
 pub mod Versions
 pub mod Statements
-pub mod FaultNames
 pub mod FaultTable
 pub mod Drafts
-pub mod LineReader
 pub mod Reading
 pub mod Text
 pub mod StepText

@@ -3,8 +3,8 @@ use Rattle.std.specs.Prelude.{ℕ, ◌≡◌, ◌<◌, ◌≤◌, true, List, le
 use Rattle.std.specs.List.{list_all}
 use Rattle.std.specs.Str.Parse.{digits_value}
 use Rattle.tw_model.specs.PermittedPath.{PermittedPath}
+use Rattle.tw_lines.specs.Words.{is_number, is_plain, words}
 use Rattle.tw_text.specs.Statements.{path_line, statement_of}
-use Rattle.tw_text.specs.Words.{is_number, is_plain, words}
 
 -- the text begins with this number, whose word ends here
 pub record BeginsWith (text : List ℕ) (n end : ℕ) : Type 0 where

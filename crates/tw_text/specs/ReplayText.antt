@@ -5,17 +5,16 @@ use Rattle.std.specs.declared.alloc.Global.{Global}
 use Rattle.std.specs.declared.vec.Vec.{Vec}
 use Rattle.tw_model.specs.Case.{Case}
 use Rattle.tw_sim.specs.declared.machine.Step.{Step}
+use Rattle.tw_lines.specs.declared.text_fault.LineFault.{LineFault}
+use Rattle.tw_lines.specs.declared.text_fault.TextFault.{TextFault}
+use Rattle.tw_lines.specs.LineReader.{TextReader}
+use Rattle.tw_lines.specs.Reading.{read_from, ◌>>=◌}
 use Rattle.tw_text.specs.declared.draft.Draft.{Draft}
 use Rattle.tw_text.specs.declared.draft.Draft.TheVariants.{Start, Done}
 use Rattle.tw_text.specs.declared.replay_text.ReplayDraft.{ReplayDraft}
 use Rattle.tw_text.specs.declared.replay_text.ReplayDraft.TheVariants as replay
 use Rattle.tw_text.specs.declared.step_text.StepDraft.TheVariants.{Open}
-use Rattle.tw_text.specs.declared.text_fault.LineFault.{LineFault}
-use Rattle.tw_text.specs.declared.text_fault.TextFault.{TextFault}
 use Rattle.tw_text.specs.FaultTable.{draft_after}
-use Rattle.tw_text.specs.LineReader.{TextReader}
-use Rattle.tw_text.specs.Reading.{read_from}
-use Rattle.tw_text.specs.Statements.{◌>>=◌}
 use Rattle.tw_text.specs.StepText.{after_line, text_of_steps, whole_steps}
 use Rattle.tw_text.specs.Text.{text_of_case}
 

@@ -6,12 +6,13 @@ use Rattle.tw_model.specs.declared.case.Scene.{Scene}
 use Rattle.tw_model.specs.declared.case.Scene.TheVariants.{Allow, Fail, Forbid, Restore, Swap}
 use Rattle.tw_model.specs.declared.net.Link.{Link}
 use Rattle.tw_model.specs.PermittedPath.{PermittedPath}
+use Rattle.tw_lines.specs.declared.text_fault.LineFault.{LineFault}
+use Rattle.tw_lines.specs.declared.text_fault.LineFault.TheVariants as x
+use Rattle.tw_lines.specs.Reading.{◌>>=◌}
+use Rattle.tw_lines.specs.Words.{is_number}
 use Rattle.tw_text.specs.declared.keyword.Keyword.{Keyword}
 use Rattle.tw_text.specs.declared.keyword.Keyword.TheVariants as keyword
-use Rattle.tw_text.specs.declared.text_fault.LineFault.{LineFault}
-use Rattle.tw_text.specs.declared.text_fault.LineFault.TheVariants as x
 use Rattle.tw_text.specs.Versions.{keywords}
-use Rattle.tw_text.specs.Words.{is_number}
 
 -- what a line says
 pub data Statement : Type 0 where
@@ -20,12 +21,6 @@ pub data Statement : Type 0 where
   path_line : PermittedPath → Statement
   scene_line : Scene → Statement
   end_line : Statement
-
--- the first fault, or what follows
-infixl 10 ◌>>=◌
-abbrev pub ◌>>=◌ : {A B E : Type 0} → Result A E → (A → Result B E) → Result B E
-(Ok x) >>= f = f x
-(Err e) >>= f = Err e
 
 -- the word of a keyword
 abbrev pub word_of : Keyword → List ℕ
@@ -65,10 +60,6 @@ takes_words k ws = takes k (length ws) && not (list_any (λ w. length w == 0) ws
 abbrev pub keyword_before : Option Keyword → List (List ℕ) → Result Keyword LineFault
 keyword_before None ws = Err x.Word
 keyword_before (Some k) ws = if takes_words k ws then Ok k else Err x.Word
-
--- the number that the word is
-abbrev pub number_of : List ℕ → Result ℕ LineFault
-number_of w = if is_number w then Ok (digits_value 10 w) else Err x.Number
 
 -- the numbers that the words are
 abbrev pub numbers_of : List (List ℕ) → Result (List ℕ) LineFault

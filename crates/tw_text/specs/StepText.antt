@@ -5,20 +5,18 @@ use Rattle.std.specs.List.{AllByRecursion, find, flat_map, list_all}
 use Rattle.tw_model.specs.declared.rule.Rule.TheVariants.{TooMany}
 use Rattle.tw_sim.specs.declared.machine.Step.{Step}
 use Rattle.tw_sim.specs.declared.machine.Step.TheVariants.{Handle, Undo, Deliver, Bound, Commit, Release}
+use Rattle.tw_lines.specs.declared.text_fault.LineFault.{LineFault}
+use Rattle.tw_lines.specs.declared.text_fault.LineFault.TheVariants as x
+use Rattle.tw_lines.specs.declared.text_fault.TextFault.{TextFault}
+use Rattle.tw_lines.specs.LineReader.{TextReader}
+use Rattle.tw_lines.specs.Reading.{read_from, ◌>>=◌}
+use Rattle.tw_lines.specs.Words.{ended_line, is_plain, number_of, words}
 use Rattle.tw_text.specs.declared.step_text.StepDraft.{StepDraft}
 use Rattle.tw_text.specs.declared.step_text.StepDraft.TheVariants.{Open, Done}
 use Rattle.tw_text.specs.declared.step_text.StepLine.{StepLine}
 use Rattle.tw_text.specs.declared.step_text.StepLine.TheVariants as line
-use Rattle.tw_text.specs.declared.text_fault.LineFault.{LineFault}
-use Rattle.tw_text.specs.declared.text_fault.LineFault.TheVariants as x
-use Rattle.tw_text.specs.declared.text_fault.TextFault.{TextFault}
 use Rattle.tw_model.specs.declared.limits.TheConstants.{MOST_DIGITS, MOST_STEPS}
 use Rattle.tw_text.specs.FaultTable.{faults_in_order, has_no_number, if_said, is_no_statement, unless_fault, with_said}
-use Rattle.tw_text.specs.LineReader.{TextReader}
-use Rattle.tw_text.specs.Reading.{read_from}
-use Rattle.tw_text.specs.Statements.{◌>>=◌, number_of}
-use Rattle.tw_text.specs.Text.{ended_line}
-use Rattle.tw_text.specs.Words.{is_plain, words}
 
 -- ---- the text of steps
 

@@ -5,11 +5,11 @@ use Rattle.tw_model.specs.Case.{Case}
 use Rattle.tw_model.specs.declared.case.Scene.{Scene}
 use Rattle.tw_model.specs.declared.case.Scene.TheVariants.{Allow, Fail, Forbid, Restore, Swap}
 use Rattle.tw_model.specs.PermittedPath.{PermittedPath}
+use Rattle.tw_lines.specs.Words.{ended_line, space}
 use Rattle.tw_text.specs.declared.keyword.Keyword.{Keyword}
 use Rattle.tw_text.specs.declared.keyword.Keyword.TheVariants as keyword
 use Rattle.tw_text.specs.Statements.{Statement, nodes_line, link_line, path_line, scene_line, end_line, word_of}
 use Rattle.tw_text.specs.Versions.{header}
-use Rattle.tw_text.specs.Words.{line_feed, space}
 
 -- what the lines of a case say, from line 2 on
 abbrev pub statements_of : Case → List Statement
@@ -68,10 +68,6 @@ line_of_path p = join_with_byte space (words_with keyword.Path (p.owner ∷ p.no
 -- a scenario line, the same in each version that has it
 abbrev pub line_of_scene : Scene → List ℕ
 line_of_scene s = join_with_byte space (words_with (scene_keyword s) (scene_numbers s))
-
--- a line with its end
-abbrev pub ended_line : List ℕ → List ℕ
-ended_line line = line ++ line_feed ∷ []
 
 -- the lines of a case
 abbrev pub lines_of : Case → List (List ℕ)

@@ -3,17 +3,17 @@
 ghost use Rattle.std.specs.Prelude.{◌≡◌, ℕ, if◌then◌else◌};
 ghost use Rattle.tw_model.specs.Memory.{IsUnlessMemory, map_fault};
 ghost use Rattle.tw_model.specs.declared.case.Scene.TheVariants as AScene;
+ghost use Rattle.tw_lines.specs.LineReader.{left_by};
 ghost use Rattle.tw_text.specs.Drafts.{after_header, before_links, before_paths, before_scenes, check_ended, node_in, nodes_in, place_of};
 ghost use Rattle.tw_text.specs.Drafts.{result_items, step_said, with_end, with_link, with_nodes, with_path, with_scene};
 ghost use Rattle.tw_text.specs.FaultTable.{version_in};
-ghost use Rattle.tw_text.specs.LineReader.{left_by};
 ghost use Rattle.tw_text.specs.Statements.{scene_said, statement_with};
 ghost use Rattle.tw_text.specs.declared.draft.Draft.TheVariants as AsDraft;
 
 use crate::keyword::Keyword;
-use crate::text_fault::LineFault;
 use std::alloc::Global;
 use tw_instance::{Case, Instance};
+use tw_lines::LineFault;
 use tw_model::{Link, OrMemory, PermittedPath, Rule, Scene};
 
 /// What the lines so far have given, by what may follow: from line 1 on the version of the text too.

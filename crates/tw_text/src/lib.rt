@@ -11,27 +11,25 @@
 //!
 //! `read_steps` and `read_replay` likewise, with `text_of_steps` and `steps_of`
 //! (`specs/StepText.antt`) and `text_of_replay` and `replay_of` (`specs/ReplayText.antt`). The three
-//! kinds of text are read line by line by one function, `read_text`, of which each is a `LineReader`.
+//! kinds of text are read line by line by one function, `read_text` of `tw_lines`, and each is a
+//! `LineReader` of that crate.
 #![tactic(auto)]
 
 mod draft;
 mod keyword;
 pub mod laws;
 mod line;
-mod line_reader;
 mod path_line;
 mod read;
 mod replay_text;
 mod step_list;
 mod step_text;
-mod text_fault;
 mod upgrading;
-mod words;
 mod write;
 
 pub use read::read_case;
 pub use replay_text::read_replay;
 pub use step_text::read_steps;
-pub use text_fault::{LineFault, TextFault};
+pub use tw_lines::{LineFault, TextFault};
 pub use upgrading::upgrade;
 pub use write::write_case;

@@ -3,17 +3,16 @@
 ghost use Rattle.std.specs.List.{list_all};
 ghost use Rattle.std.specs.Prelude.{◌≡◌, map, false, true};
 ghost use Rattle.tw_model.specs.Memory.{IsUnlessMemory};
+ghost use Rattle.tw_lines.specs.Words.{is_plain, words};
 ghost use Rattle.tw_text.specs.Drafts.{result_items, step_said};
 ghost use Rattle.tw_text.specs.FaultTable.{draft_after, is_start, version_in};
 ghost use Rattle.tw_text.specs.Statements.{keyword_before, keyword_of, numbers_of, statement_of};
 ghost use Rattle.tw_text.specs.Versions.{version_of};
-ghost use Rattle.tw_text.specs.Words.{is_plain, words};
 
 use crate::draft::{Draft, take_statement};
 use crate::keyword::Keyword;
-use crate::text_fault::LineFault;
-use crate::words::{is_plain_line, number_of, split_words};
 use std::alloc::Global;
+use tw_lines::{LineFault, is_plain_line, number_of, split_words};
 use tw_model::OrMemory;
 
 /// The draft with one more line, or the lowest fault of the line. `ended` says whether the line has

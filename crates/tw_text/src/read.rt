@@ -8,12 +8,11 @@ ghost use Rattle.tw_text.specs.Text.{text_of_case};
 
 use crate::draft::{Draft, add_path};
 use crate::line::read_line;
-use crate::line_reader::{LineReader, read_text};
 use crate::path_line::path_in;
-use crate::text_fault::{LineFault, TextFault};
 use std::alloc::Global;
 use std::mem;
 use tw_instance::Case;
+use tw_lines::{LineFault, LineReader, TextFault, read_text};
 use tw_model::OrMemory;
 
 /// The case of a text in the grammar of `docs/FORMATS.md`, of version 1 or 2. A text that is none is

@@ -8,13 +8,12 @@ ghost use Rattle.tw_text.specs.ReplayText.{after_case, after_replay_line, replay
 ghost use Rattle.tw_text.specs.StepText.{HasText};
 
 use crate::draft::Draft;
-use crate::line_reader::{LineReader, read_text};
 use crate::step_list::StepList;
 use crate::step_text::StepDraft;
-use crate::text_fault::{LineFault, TextFault};
 use std::alloc::Global;
 use std::mem;
 use tw_instance::Case;
+use tw_lines::{LineFault, LineReader, TextFault, read_text};
 use tw_model::OrMemory;
 use tw_sim::Step;
 

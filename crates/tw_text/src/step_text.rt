@@ -4,16 +4,16 @@ ghost use Rattle.std.specs.List.{list_all};
 ghost use Rattle.std.specs.Prelude.{◌≡◌, ◌∷◌, ◌++◌, List, [], length, map, true, Ok, IfOk};
 ghost use Rattle.tw_model.specs.Memory.{IsUnlessMemory};
 ghost use Rattle.tw_sim.specs.declared.machine.Step.{Step as AStep};
+ghost use Rattle.tw_lines.specs.Words.{is_plain, words};
 ghost use Rattle.tw_text.specs.Drafts.{result_items};
 ghost use Rattle.tw_text.specs.StepText.{HasText, after_line, after_said, after_words, router_of, said_alone, said_by, said_with, step_reader, steps_of, text_of_steps};
-ghost use Rattle.tw_text.specs.Words.{is_plain, words};
 
-use crate::line_reader::{LineReader, read_text};
 use crate::step_list::StepList;
-use crate::text_fault::{LineFault, TextFault};
-use crate::words::{is_plain_line, number_of, split_words};
 use std::alloc::Global;
 use std::mem;
+use tw_lines::{
+    LineFault, LineReader, TextFault, is_plain_line, number_of, read_text, split_words,
+};
 use tw_model::limits::MOST_STEPS;
 use tw_model::{OrMemory, Rule};
 use tw_sim::Step;

@@ -3,8 +3,9 @@
 ghost use Rattle.std.specs.Prelude.{◌≡◌, ◌∷◌, ◌++◌, decimal, IfOk, OnOk};
 ghost use Rattle.std.specs.List.{flat_map};
 ghost use Rattle.std.specs.String.{string_bytes};
+ghost use Rattle.tw_lines.specs.Words.{ended_line};
 ghost use Rattle.tw_text.specs.Statements.{link_line};
-ghost use Rattle.tw_text.specs.Text.{ended_line, line_of, line_of_path, line_of_scene, text_of_case};
+ghost use Rattle.tw_text.specs.Text.{line_of, line_of_path, line_of_scene, text_of_case};
 
 use std::alloc::{AllocError, Global};
 use tw_instance::Case;

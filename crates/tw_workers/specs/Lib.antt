@@ -1,3 +1,4 @@
+pub mod Meeting
 pub mod Work
 pub mod Seated
 pub mod Inside

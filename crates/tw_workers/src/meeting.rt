@@ -1,15 +1,12 @@
 //! A worker meets the table.
-ghost use Rattle.std.specs.Prelude.{ℕ, ◌≡◌, ◌≤◌, ◌<◌, [], ◌∷◌, ◌⊎◌, Err, IsTrue, None, OnErr, OnOk, Some, length, true};
-ghost use Rattle.tw_exchange.specs.Board.{AreDealt, IsBoard, is_homeless, report_of, workers};
-ghost use Rattle.tw_exchange.specs.declared.visit.VisitFault.TheVariants.{Early, NoRouter, NoWorker};
-ghost use Rattle.tw_model.specs.Case.{simulation};
+ghost use Rattle.std.specs.Prelude.{ℕ, ◌≡◌, ◌≤◌, ◌<◌, [], None, OnErr, Some, length, true};
+ghost use Rattle.tw_exchange.specs.Board.{report_of};
 ghost use Rattle.tw_model.specs.declared.memory.OrMemory.TheVariants as or_memory;
-ghost use Rattle.tw_rule.specs.Place.{report_time};
 ghost use Rattle.tw_shard.specs.Shard.{IsSameShare, shard_core};
 ghost use Rattle.tw_table.specs.Seats.{IsSameSeat, IsSeatOf, bound_at, exchange_of, halted_at, report_at, share_at, share_of, stop_at, taken_by, was_halted_at};
-ghost use Rattle.tw_table.specs.Shares.{MayBeGiven, board_of, place_of, share};
-ghost use Rattle.tw_table.specs.Views.{IsMet};
+ghost use Rattle.tw_table.specs.Shares.{MayBeGiven, board_of, share};
 ghost use Rattle.tw_workers.specs.declared.working.Leaving.TheVariants as leaving;
+ghost use Rattle.tw_workers.specs.Meeting.{HasJustTaken, HasTold, IsAnswered, IsDealtTo, MayMeet};
 ghost use Rattle.tw_workers.specs.Seated.{HasTurned};
 ghost use Rattle.tw_workers.specs.Work.{IsAtWork, PreservesShare};
 
@@ -38,18 +35,9 @@ impl<'a> Worker<'a> {
         ensures preserved { PreservesShare self.new.stop (share_at result.0) self.new.share }
         ensures done { (r : ℕ) → (shard_core 0 self.new.share.shard).done r ≡ (shard_core 0 self.old.share.shard).done r }
         ensures held { self.new.share.shard.held ≡ self.old.share.shard.held }
-        ensures told { (result.1 ≡ Some leaving.Memory → ⊥) → self.new.share.shard.bound ≡ bound_at result.0 }
-        ensures sent { (result.1 ≡ Some leaving.Memory → ⊥) → self.new.share.unsent ≡ [] }
-        // It has reported the least time of all that waits for its routers, is held for them, or is in its hand.
-        ensures report { (result.1 ≡ Some leaving.Memory → ⊥) → report_at result.0 ≡ report_time (simulation self.new.share.shard.terms.case) (place_of self.new.share) }
+        ensures told { (result.1 ≡ Some leaving.Memory → ⊥) → HasTold (bound_at result.0) (report_at result.0) self.new.share }
         ensures was_halted { was_halted_at result.0 ≡ halted_at seat }
-        ensures open { result.1 ≡ None → bound_at result.0 < self.new.stop }
-        ensures settled { result.1 ≡ Some leaving.Settled → bound_at result.0 ≡ self.new.stop }
-        ensures full { result.1 ≡ Some leaving.CounterFull → ⊥ }
-        ensures refused { result.1 ≡ Some leaving.Memory → 0 < length self.old.share.unsent }
-        ensures halts { result.1 ≡ Some leaving.Memory → halted_at result.0 ≡ true }
-        ensures heard { result.1 ≡ Some leaving.Halted → halted_at result.0 ≡ true }
-        ensures obeys { halted_at result.0 ≡ true → (result.1 ≡ Some leaving.Halted) ⊎ (result.1 ≡ Some leaving.Memory) }
+        ensures answer { IsAnswered (length self.old.share.unsent) (bound_at result.0) self.new.stop (halted_at result.0) result.1 }
     {
         // What is dealt before takes no time at the table.
         let dealt = table.deal(&mut self.parcels, &self.hand.out);
@@ -92,19 +80,9 @@ fn visit(
     dealt: Result<(), OrMemory<VisitFault>>,
     stop: u64,
 ) -> Option<Leaving>
-    requires met { IsMet (share_of held.old ∷ []) (taken_by held.old) }
-    requires fresh { exchange_of held.old ≡ taken_by held.old }
-    requires board { IsBoard (taken_by held.old) }
-    requires stop { (taken_by held.old).stop ≡ stop }
-    requires preserved { PreservesShare stop (share_of held.old) (share shard.old hand.old) }
-    requires work { IsAtWork stop (share shard.old hand.old) }
-    requires delivered { (share shard.old hand.old).mail ≡ [] }
-    requires sorted { shard.old.outgoing ≡ [] }
-    requires dealt { OnOk dealt (AreDealt (exchange_of held.old).owners (workers (exchange_of held.old)) hand.old.out.items parcels.old) }
-    requires wanted { OnErr dealt (0 < length hand.old.out.items) }
-    requires no_router { dealt ≡ Err (or_memory.Fault NoRouter) → IsTrue (is_homeless hand.old.out.items (exchange_of held.old)) }
-    requires no_worker { dealt ≡ Err (or_memory.Fault NoWorker) → ⊥ }
-    requires early { dealt ≡ Err (or_memory.Fault Early) → ⊥ }
+    requires taken { HasJustTaken stop held.old }
+    requires ready { MayMeet stop (share_of held.old) (share shard.old hand.old) }
+    requires dealt { IsDealtTo (exchange_of held.old) hand.old.out.items parcels.old dealt }
     ensures seat { IsSameSeat held.old held.new }
     ensures given { MayBeGiven (taken_by held.old) (share_of held.old) (exchange_of held.new) (share shard.new hand.new) }
     ensures work { IsAtWork stop (share shard.new hand.new) }
@@ -112,18 +90,10 @@ fn visit(
     ensures done { (r : ℕ) → (shard_core 0 shard.new).done r ≡ (shard_core 0 shard.old).done r }
     ensures held { shard.new.held ≡ shard.old.held }
     ensures rises { (taken_by held.old).bound ≤ (exchange_of held.new).bound }
-    ensures told { (result ≡ Some leaving.Memory → ⊥) → shard.new.bound ≡ (exchange_of held.new).bound }
-    ensures sent { (result ≡ Some leaving.Memory → ⊥) → hand.new.out.items ≡ [] }
-    ensures report { (result ≡ Some leaving.Memory → ⊥) → report_of (share_of held.old).shard.terms.worker (exchange_of held.new)
-        ≡ report_time (simulation shard.new.terms.case) (place_of (share shard.new hand.new)) }
-    ensures open { result ≡ None → (exchange_of held.new).bound < stop }
-    ensures settled { result ≡ Some leaving.Settled → (exchange_of held.new).bound ≡ stop }
-    ensures full { result ≡ Some leaving.CounterFull → ⊥ }
-    ensures refused { result ≡ Some leaving.Memory → 0 < length hand.old.out.items }
+    ensures told { (result ≡ Some leaving.Memory → ⊥) → HasTold (exchange_of held.new).bound
+        (report_of (share_of held.old).shard.terms.worker (exchange_of held.new)) (share shard.new hand.new) }
+    ensures answer { IsAnswered (length hand.old.out.items) (exchange_of held.new).bound stop (exchange_of held.new).halted result }
     ensures wanted { OnErr dealt (result ≡ Some leaving.Memory) }
-    ensures halts { result ≡ Some leaving.Memory → (exchange_of held.new).halted ≡ true }
-    ensures heard { result ≡ Some leaving.Halted → (exchange_of held.new).halted ≡ true }
-    ensures obeys { (exchange_of held.new).halted ≡ true → (result ≡ Some leaving.Halted) ⊎ (result ≡ Some leaving.Memory) }
 {
     if let Err(why) = dealt {
         return refuse(held, why);

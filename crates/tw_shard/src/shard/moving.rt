@@ -3,24 +3,18 @@
 ghost use Rattle.std.specs.Prelude.{◌≡◌, ◌≤◌, ◌<◌, ◌+◌, ◌++◌, ◌∷◌, ◌↔◌, ℕ, [], false, true, length, slice_index_or, vec_capacity, vec_len, IsErrOf, OnErr, OnOk};
 ghost use Rattle.tw_core.specs.declared.refusal.Refusal.{Refusal as ARefusal};
 ghost use Rattle.tw_core.specs.declared.refusal.Refusal.TheVariants.{NotMine};
-ghost use Rattle.tw_event.specs.Order.{event_before};
 ghost use Rattle.tw_model.specs.declared.memory.OrMemory.TheVariants as or_memory;
-ghost use Rattle.tw_held.specs.Held.{sent_by, sent_by_others};
-ghost use Rattle.tw_ordered.specs.Queue.{for_others, for_router};
 ghost use Rattle.tw_shard.specs.Moving.{HasMovedIn, HasMovedOut};
 ghost use Rattle.tw_shard.specs.Roster.{IsWithout, has, place_in};
 ghost use Rattle.tw_shard.specs.Shard.{no_timeline, owns};
 ghost use Rattle.tw_shard.specs.Timeline.{Timeline as ATimeline};
-ghost use Rattle.tw_sim.specs.Ordered.{insert_all};
 
 use super::Shard;
 use crate::roster::Roster;
 use crate::timeline::Timeline;
 use std::alloc::AllocError;
 use tw_core::Refusal;
-use tw_held::HeldSends;
 use tw_model::OrMemory;
-use tw_queue::Pending;
 
 impl<'a> Shard<'a> {
     /// One of its routers goes to another shard, with all that is its own: its state, its history with the records,
@@ -61,16 +55,13 @@ impl<'a> Shard<'a> {
     {
         to.roster.reserve_one()?;
         to.timelines.reserve(1)?;
+        to.pending.reserve(self.pending.len())?;
+        to.kept.reserve(self.kept.len())?;
+        to.held.reserve(self.held.count_of_sender(router))?;
         let held = to.held.len();
-        hand_over_waiting(
-            router,
-            &mut self.pending,
-            &mut to.pending,
-            &mut self.kept,
-            &mut to.kept,
-            &mut self.held,
-            &mut to.held,
-        )?;
+        self.pending.hand_over(router, &mut to.pending).unwrap();
+        self.kept.hand_over(router, &mut to.kept).unwrap();
+        self.held.hand_over(router, &mut to.held).unwrap();
         let timeline = take_out(router, &mut self.roster, &mut self.timelines);
         to.roster.add(router);
         to.timelines.push_reserved(timeline);
@@ -81,47 +72,6 @@ impl<'a> Shard<'a> {
         to.tally.count_coming(held);
         Ok(())
     }
-}
-
-/// What waits for a router goes from one of each pair to the other.
-fn hand_over_waiting(
-    router: u32,
-    pending: &mut Pending,
-    to_pending: &mut Pending,
-    kept: &mut Pending,
-    to_kept: &mut Pending,
-    held: &mut HeldSends,
-    to_held: &mut HeldSends,
-) -> Result<(), AllocError>
-    requires pending { pending.old.routers ≤ to_pending.old.routers }
-    requires kept { kept.old.routers ≤ to_kept.old.routers }
-    requires held { held.old.routers ≤ to_held.old.routers }
-    ensures pending { OnOk result (pending.new.events ≡ for_others router pending.old.events) }
-    ensures to_pending { OnOk result (to_pending.new.events ≡ insert_all event_before (for_router router pending.old.events) to_pending.old.events) }
-    ensures kept { OnOk result (kept.new.events ≡ for_others router kept.old.events) }
-    ensures to_kept { OnOk result (to_kept.new.events ≡ insert_all event_before (for_router router kept.old.events) to_kept.old.events) }
-    ensures held { OnOk result (held.new.events ≡ sent_by_others router held.old.events) }
-    ensures to_held { OnOk result (to_held.new.events ≡ insert_all event_before (sent_by router held.old.events) to_held.old.events) }
-    ensures err_pending { OnErr result (pending.new.events ≡ pending.old.events) }
-    ensures err_to_pending { OnErr result (to_pending.new.events ≡ to_pending.old.events) }
-    ensures err_kept { OnErr result (kept.new.events ≡ kept.old.events) }
-    ensures err_to_kept { OnErr result (to_kept.new.events ≡ to_kept.old.events) }
-    ensures err_held { OnErr result (held.new.events ≡ held.old.events) }
-    ensures err_to_held { OnErr result (to_held.new.events ≡ to_held.old.events) }
-    ensures routers { pending.new.routers ≡ pending.old.routers }
-    ensures to_routers { to_pending.new.routers ≡ to_pending.old.routers }
-    ensures kept_routers { kept.new.routers ≡ kept.old.routers }
-    ensures to_kept_routers { to_kept.new.routers ≡ to_kept.old.routers }
-    ensures held_routers { held.new.routers ≡ held.old.routers }
-    ensures to_held_routers { to_held.new.routers ≡ to_held.old.routers }
-{
-    to_pending.reserve(pending.len())?;
-    to_kept.reserve(kept.len())?;
-    to_held.reserve(held.count_of_sender(router))?;
-    pending.hand_over(router, to_pending).unwrap();
-    kept.hand_over(router, to_kept).unwrap();
-    held.hand_over(router, to_held).unwrap();
-    Ok(())
 }
 
 /// Takes out a router with its timeline.

@@ -1,7 +1,8 @@
 use Rattle.std.proofs.Common.{◌≡◌, ◌++◌, drop}
 use Rattle.std.specs.List.{flat_map}
 use Rattle.std.specs.String.{string_bytes}
-use Rattle.tw_text.specs.Text.{ended_line, line_of_scene}
+use Rattle.tw_lines.specs.Words.{ended_line}
+use Rattle.tw_text.specs.Text.{line_of_scene}
 use Rattle.tw_text.proofs.write.push_scenes.Given as goal
 
 abbrev pub invariant-loop-scene : goal.invariant-loop-scene

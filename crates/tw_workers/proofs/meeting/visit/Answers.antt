@@ -1,4 +1,4 @@
-use Rattle.std.proofs.Common.{◌≡◌, ◌≤◌, Err, false, max, ap, sym, ◌∙◌, subst, drop}
+use Rattle.std.proofs.Common.{rules, length, ◌<◌, ◌≡◌, ◌≤◌, Err, false, max, ap, sym, ◌∙◌, subst, drop}
 use Rattle.tw_exchange.specs.Board.{AreDealt, handed, is_early, is_homeless, visited, workers}
 use Rattle.tw_table.proofs.Rules.{IsGiven, own_part}
 use Rattle.tw_table.specs.Seats.{exchange_of, share_of, taken_by}
@@ -21,8 +21,8 @@ is_visited c =
     let out = c.args.hand.now.out.items in
     let told = c.in-Ok.ensures in
     let report = c.report_time.ensures in
-    let fresh = c.requires.fresh in
-    let dealt = taken_up c.args.dealt (AreDealt z.owners (workers z) out c.args.parcels.now) (λ why is. c.in_default.not-Err why is) c.requires.dealt in
+    let fresh = c.requires.taken.fresh in
+    let dealt = taken_up c.args.dealt (AreDealt z.owners (workers z) out c.args.parcels.now) (λ why is. c.in_default.not-Err why is) c.requires.dealt.dealt in
     record {
       board = told.board out dealt ∙ (λ i. visited w out (report i) (fresh i));
       shard = c.raise_bound.ensures ∙ (λ i. record q.shard { bound = max q.shard.bound (told.bound i) });
@@ -36,8 +36,8 @@ visit_given c =
     let y = exchange_of c.visit_dealt.new.self in
     let s = share_of c.args.held.now in
     let q = share c.args.shard.now c.args.hand.now in
-    let rises = subst (λ b. b ≤ y.bound) (ap (λ b. b.bound) c.requires.fresh) c.visit_dealt.ensures.rising in
-    visited_whole x y c.args.stop s q (after c) c.requires.met c.requires.board c.requires.stop c.requires.preserved c.requires.delivered c.requires.sorted rises (is_visited c)
+    let rises = subst (λ b. b ≤ y.bound) (ap (λ b. b.bound) c.requires.taken.fresh) c.visit_dealt.ensures.rising in
+    visited_whole x y c.args.stop s q (after c) c.requires.taken.met c.requires.taken.board c.requires.taken.stop c.requires.ready.preserved c.requires.ready.delivered c.requires.ready.sorted rises (is_visited c)
 
 pub returns-in-Ok-clause-given : goal.returns-in-Ok-clause-given
 returns-in-Ok-clause-given c =
@@ -45,11 +45,15 @@ returns-in-Ok-clause-given c =
 
 pub returns-in-Ok-clause-work : goal.returns-in-Ok-clause-work
 returns-in-Ok-clause-work c =
-    work_given (taken_by c.args.held.now) (exchange_of c.visit_dealt.new.self) c.args.stop (share_of c.args.held.now) (after c) c.requires.met c.requires.stop (visit_given c)
+    work_given (taken_by c.args.held.now) (exchange_of c.visit_dealt.new.self) c.args.stop (share_of c.args.held.now) (after c) c.requires.taken.met c.requires.taken.stop (visit_given c)
 
-pub returns-in-Ok-clause-report : goal.returns-in-Ok-clause-report
-returns-in-Ok-clause-report c = λ taken.
-    report_left (taken_by c.args.held.now) (exchange_of c.visit_dealt.new.self) (share_of c.args.held.now) (share c.args.shard.now c.args.hand.now) (after c) c.requires.met (is_visited c)
+pub returns-in-Ok-clause-told : goal.returns-in-Ok-clause-told
+returns-in-Ok-clause-told c = λ taken. record {
+  bound = search rules;
+  sent = search rules;
+  report =
+      report_left (taken_by c.args.held.now) (exchange_of c.visit_dealt.new.self) (share_of c.args.held.now) (share c.args.shard.now c.args.hand.now) (after c) c.requires.taken.met (is_visited c);
+}
 
 -- ---- without a visit
 
@@ -61,16 +65,16 @@ refuse-requires c =
     let q = share c.args.shard.now c.args.hand.now in
     let out = c.args.hand.now.out.items in
     let home : is_homeless out (exchange_of c.args.held.now) ≡ false =
-    ap (is_homeless out) c.requires.fresh ∙ not_homeless x c.args.stop s q c.requires.met c.requires.stop c.requires.preserved in
+    ap (is_homeless out) c.requires.taken.fresh ∙ not_homeless x c.args.stop s q c.requires.taken.met c.requires.taken.stop c.requires.ready.preserved in
     record {
-      memory = for_memory c.in-Err.why (λ why. c.requires.no_worker (c.in-Err.is ∙ ap Err why)) (λ why. c.requires.early (c.in-Err.is ∙ ap Err why))
-          (λ why. cc (home, c.requires.no_router (c.in-Err.is ∙ ap Err why)));
+      memory = for_memory c.in-Err.why (λ why. c.requires.dealt.no_worker (c.in-Err.is ∙ ap Err why)) (λ why. c.requires.dealt.early (c.in-Err.is ∙ ap Err why))
+          (λ why. cc (home, c.requires.dealt.no_router (c.in-Err.is ∙ ap Err why)));
     }
 
 pub returns-in-Err-clause-given : goal.returns-in-Err-clause-given
 returns-in-Err-clause-given c =
-    stayed_given (taken_by c.args.held.now) (exchange_of c.refuse.new.held) c.args.stop (share_of c.args.held.now) (share c.args.shard.now c.args.hand.now) c.requires.met c.requires.stop
-    c.requires.preserved (c.refuse.ensures.board ∙ ap board_of c.requires.fresh)
+    stayed_given (taken_by c.args.held.now) (exchange_of c.refuse.new.held) c.args.stop (share_of c.args.held.now) (share c.args.shard.now c.args.hand.now) c.requires.taken.met c.requires.taken.stop
+    c.requires.ready.preserved (c.refuse.ensures.board ∙ ap board_of c.requires.taken.fresh)
 
 -- and what could not be deposited did
 pub refuse-requires-in-Err-visit_dealt : goal.refuse-requires-in-Err-visit_dealt
@@ -81,9 +85,9 @@ refuse-requires-in-Err-visit_dealt c =
     let q = share c.args.shard.now c.args.hand.now in
     let out = c.args.hand.now.out.items in
     let told = c.in-Err-visit_dealt.ensures in
-    let dealt = taken_up c.args.dealt (AreDealt z.owners (workers z) out c.args.parcels.now) (λ why is. c.in_default.not-Err why is) c.requires.dealt in
+    let dealt = taken_up c.args.dealt (AreDealt z.owners (workers z) out c.args.parcels.now) (λ why is. c.in_default.not-Err why is) c.requires.dealt.dealt in
     let soon : is_early out c.report_time.result z ≡ false =
-    (λ i. is_early out (c.report_time.ensures i) (c.requires.fresh i)) ∙ not_early x c.args.stop s q c.requires.met c.requires.stop c.requires.preserved c.requires.delivered in
+    (λ i. is_early out (c.report_time.ensures i) (c.requires.taken.fresh i)) ∙ not_early x c.args.stop s q c.requires.taken.met c.requires.taken.stop c.requires.ready.preserved c.requires.ready.delivered in
     record { memory = for_memory c.in-Err-visit_dealt.why (λ why. told.there (ap Err why)) (λ why. cc (soon, (told.early out dealt).0 (ap Err why))) (λ why. told.no_router (ap Err why)) }
 
 pub returns-in-Err-visit_dealt-clause-given : goal.returns-in-Err-visit_dealt-clause-given
@@ -93,21 +97,32 @@ returns-in-Err-visit_dealt-clause-given c =
     let hand = c.args.hand.now in
     let shard = c.args.shard.now in
     let y = exchange_of c.refuse-in-Err-visit_dealt.new.held in
-    let board : board_of y ≡ board_of x = c.refuse-in-Err-visit_dealt.ensures.board ∙ ap board_of (c.in-Err-visit_dealt.ensures.err ∙ c.requires.fresh) in
-    let mail : drop hand.next hand.mail.items ≡ drop 0 c.visit_dealt.new.mail.items = c.requires.delivered ∙ sym (drop_none c.visit_dealt.new.mail.items ∙ c.in-Err-visit_dealt.ensures.no_mail) in
+    let board : board_of y ≡ board_of x = c.refuse-in-Err-visit_dealt.ensures.board ∙ ap board_of (c.in-Err-visit_dealt.ensures.err ∙ c.requires.taken.fresh) in
+    let mail : drop hand.next hand.mail.items ≡ drop 0 c.visit_dealt.new.mail.items = c.requires.ready.delivered ∙ sym (drop_none c.visit_dealt.new.mail.items ∙ c.in-Err-visit_dealt.ensures.no_mail) in
     subst (λ m. MayBeGiven x s y (record { shard = shard; mail = m; unsent = hand.out.items })) mail
-    (stayed_given x y c.args.stop s (share shard hand) c.requires.met c.requires.stop c.requires.preserved board)
+    (stayed_given x y c.args.stop s (share shard hand) c.requires.taken.met c.requires.taken.stop c.requires.ready.preserved board)
 
-pub returns-in-Err-visit_dealt-clause-refused : goal.returns-in-Err-visit_dealt-clause-refused
-returns-in-Err-visit_dealt-clause-refused c = λ refused.
+wanted_memory : (c : goal.After-refuse-in-Err-visit_dealt) → 0 < length c.args.hand.now.out.items
+wanted_memory c =
     let x = taken_by c.args.held.now in
     let s = share_of c.args.held.now in
     let z = exchange_of c.args.held.now in
     let q = share c.args.shard.now c.args.hand.now in
     let out = c.args.hand.now.out.items in
     let told = c.in-Err-visit_dealt.ensures in
-    let dealt = taken_up c.args.dealt (AreDealt z.owners (workers z) out c.args.parcels.now) (λ why is. c.in_default.not-Err why is) c.requires.dealt in
+    let dealt = taken_up c.args.dealt (AreDealt z.owners (workers z) out c.args.parcels.now) (λ why is. c.in_default.not-Err why is) c.requires.dealt.dealt in
     let soon : is_early out c.report_time.result z ≡ false =
-    (λ i. is_early out (c.report_time.ensures i) (c.requires.fresh i)) ∙ not_early x c.args.stop s q c.requires.met c.requires.stop c.requires.preserved c.requires.delivered in
+    (λ i. is_early out (c.report_time.ensures i) (c.requires.taken.fresh i)) ∙ not_early x c.args.stop s q c.requires.taken.met c.requires.taken.stop c.requires.ready.preserved c.requires.ready.delivered in
     told.memory out dealt
     (ap Err (for_memory c.in-Err-visit_dealt.why (λ why. told.there (ap Err why)) (λ why. cc (soon, (told.early out dealt).0 (ap Err why))) (λ why. told.no_router (ap Err why))))
+
+pub returns-in-Err-visit_dealt-clause-answer : goal.returns-in-Err-visit_dealt-clause-answer
+returns-in-Err-visit_dealt-clause-answer c = record {
+  goes_on = search rules;
+  settled = search rules;
+  full = search rules;
+  refused = λ refused. wanted_memory c;
+  halts = search rules;
+  heard = search rules;
+  obeys = search rules;
+}

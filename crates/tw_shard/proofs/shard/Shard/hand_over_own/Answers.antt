@@ -1,4 +1,8 @@
-use Rattle.std.proofs.Common.{◌≡◌, ◌++◌, ◌∷◌, [], true, false, ap, sym, subst, ◌∙◌, arith}
+use Rattle.std.proofs.Common.{rules, ◌≡◌, ◌++◌, ◌∷◌, [], true, false, ap, sym, subst, ◌∙◌, arith}
+use Rattle.tw_event.specs.Order.{event_before}
+use Rattle.tw_held.specs.Held.{sent_by, sent_by_others}
+use Rattle.tw_ordered.specs.Queue.{for_others, for_router}
+use Rattle.tw_sim.specs.Ordered.{insert_all}
 use Rattle.tw_shard.specs.Inside.{HasHandledTo, shard_of, terms_of}
 use Rattle.tw_shard.specs.Moving.{HasMovedIn, HasMovedOut}
 use Rattle.tw_shard.specs.Shard.{IsSoundShard, Shard, owns}
@@ -31,10 +35,10 @@ self_now c = record {
   terms = terms_of c.self.inside;
   routers = c.take_out-timeline.new.roster.routers;
   timelines = c.take_out-timeline.new.timelines.items;
-  pending = c.hand_over_waiting.new.pending.events;
-  kept = c.hand_over_waiting.new.kept.events;
+  pending = c.hand_over.new.self.events;
+  kept = c.hand_over-2.new.self.events;
   outgoing = c.self.inside.outgoing.items;
-  held = c.hand_over_waiting.new.held.events;
+  held = c.hand_over-3.new.self.events;
   bound = c.self.inside.bound;
 }
 
@@ -43,25 +47,42 @@ to_now c = record {
   terms = terms_of c.to.inside;
   routers = c.add.new.self.routers;
   timelines = c.push_reserved.new.self.items;
-  pending = c.hand_over_waiting.new.to_pending.events;
-  kept = c.hand_over_waiting.new.to_kept.events;
+  pending = c.hand_over.new.to.events;
+  kept = c.hand_over-2.new.to.events;
   outgoing = c.to.inside.outgoing.items;
-  held = c.hand_over_waiting.new.to_held.events;
+  held = c.hand_over-3.new.to.events;
   bound = c.max-to-inside-2.result;
 }
+
+pending_left : (c : goal.After-count_coming) → c.hand_over.new.self.events ≡ for_others c.args.router (shard_of c.self.inside).pending
+pending_left c = search rules
+
+pending_come : (c : goal.After-count_coming) → c.hand_over.new.to.events ≡ insert_all event_before (for_router c.args.router (shard_of c.self.inside).pending) (shard_of c.to.inside).pending
+pending_come c = search rules
+
+kept_left : (c : goal.After-count_coming) → c.hand_over-2.new.self.events ≡ for_others c.args.router (shard_of c.self.inside).kept
+kept_left c = search rules
+
+kept_come : (c : goal.After-count_coming) → c.hand_over-2.new.to.events ≡ insert_all event_before (for_router c.args.router (shard_of c.self.inside).kept) (shard_of c.to.inside).kept
+kept_come c = search rules
+
+held_left : (c : goal.After-count_coming) → c.hand_over-3.new.self.events ≡ sent_by_others c.args.router (shard_of c.self.inside).held
+held_left c = search rules
+
+held_come : (c : goal.After-count_coming) → c.hand_over-3.new.to.events ≡ insert_all event_before (sent_by c.args.router (shard_of c.self.inside).held) (shard_of c.to.inside).held
+held_come c = search rules
 
 left_is : (c : goal.After-count_coming) → left c ≡ self_now c
 left_is c =
     let s = shard_of c.self.inside in
-    let given = c.in_ok-hand_over_waiting.ensures in
     λ i. record {
       terms = s.terms;
       routers = c.take_out-timeline.new.roster.routers;
       timelines = c.take_out-timeline.new.timelines.items;
-      pending = sym given.pending i;
-      kept = sym given.kept i;
+      pending = sym (pending_left c) i;
+      kept = sym (kept_left c) i;
       outgoing = s.outgoing;
-      held = sym given.held i;
+      held = sym (held_left c) i;
       bound = s.bound;
     }
 
@@ -70,7 +91,6 @@ come_is c =
     let s = shard_of c.self.inside in
     let t = shard_of c.to.inside in
     let r = c.args.router in
-    let given = c.in_ok-hand_over_waiting.ensures in
     let routers = c.add.ensures.routers ∙ ap (λ rs. rs ++ r ∷ []) c.reserve_one.ensures.routers in
     let lines =
     c.push_reserved.ensures.items
@@ -79,37 +99,35 @@ come_is c =
       terms = t.terms;
       routers = sym routers i;
       timelines = sym lines i;
-      pending = sym given.to_pending i;
-      kept = sym given.to_kept i;
+      pending = sym (pending_come c) i;
+      kept = sym (kept_come c) i;
       outgoing = t.outgoing;
-      held = sym given.to_held i;
+      held = sym (held_come c) i;
       bound = sym c.max-to-inside-2.ensures i;
     }
 
-pub invariant_of-self-2 : goal.invariant_of-self-2
-invariant_of-self-2 c =
+pub invariant_of-self : goal.invariant_of-self
+invariant_of-self c =
     let a = c.self.inside in
-    let given = c.hand_over_waiting.ensures in
     record {
       whole = subst IsSoundShard (left_is c) (whole_left (shard_of a) c.args.router c.self.invariant.whole (mine c) c.take_out-timeline.new.roster.routers c.take_out-timeline.new.timelines.items
           c.take_out-timeline.ensures.routers c.take_out-timeline.ensures.timelines);
       roster = c.take_out-timeline.ensures.count ∙ c.self.invariant.roster;
-      pending = given.routers ∙ c.self.invariant.pending;
-      kept = given.kept_routers ∙ c.self.invariant.kept;
-      held = given.held_routers ∙ c.self.invariant.held;
+      pending = c.hand_over.ensures.routers ∙ c.self.invariant.pending;
+      kept = c.hand_over-2.ensures.routers ∙ c.self.invariant.kept;
+      held = c.hand_over-3.ensures.routers ∙ c.self.invariant.held;
       latest = subst (HasHandledTo a.latest) (left_is c) (latest_left (shard_of a) c.args.router c.self.invariant.whole (mine c) c.take_out-timeline.new.roster.routers c.take_out-timeline.new.timelines.items
           c.take_out-timeline.ensures.routers c.take_out-timeline.ensures.timelines a.latest c.self.invariant.latest);
     }
 
 pub invariant_of-to-2 : goal.invariant_of-to-2
 invariant_of-to-2 c =
-    let given = c.hand_over_waiting.ensures in
     record {
       whole = subst IsSoundShard (come_is c) (whole_come (shard_of c.self.inside) (shard_of c.to.inside) c.args.router c.self.invariant.whole (mine c) c.to.invariant.whole (new c) (same_case c) (same_keeps c));
       roster = c.add.ensures.count ∙ (c.reserve_one.ensures.count ∙ c.to.invariant.roster);
-      pending = given.to_routers ∙ c.to.invariant.pending;
-      kept = given.to_kept_routers ∙ c.to.invariant.kept;
-      held = given.to_held_routers ∙ c.to.invariant.held;
+      pending = c.hand_over.ensures.to_routers ∙ (c.reserve-2.ensures.routers ∙ c.to.invariant.pending);
+      kept = c.hand_over-2.ensures.to_routers ∙ (c.reserve-3.ensures.routers ∙ c.to.invariant.kept);
+      held = c.hand_over-3.ensures.to_routers ∙ (c.reserve-4.ensures.routers ∙ c.to.invariant.held);
       latest = subst (HasHandledTo c.max-to-inside.result) (come_is c) (latest_come (shard_of c.self.inside) (shard_of c.to.inside) c.args.router c.self.invariant.whole (mine c) c.to.invariant.whole (new c) (same_case c) (same_keeps c)
           c.self.inside.latest c.to.inside.latest c.max-to-inside.result (let later = c.max-to-inside.ensures in omega arith) (let later = c.max-to-inside.ensures in omega arith) c.self.invariant.latest c.to.invariant.latest);
     }

@@ -1,0 +1,4 @@
+pub mod Words
+pub mod FaultNames
+pub mod LineReader
+pub mod Reading
