@@ -28,7 +28,7 @@ pub use into_run::StillParallel;
 pub use moving::UnfitOwners;
 pub use of_run::StillAlone;
 pub use outcome::NotSettled;
-pub use run::{Ended, run_until};
+pub use run::{Ended, Options, run_until};
 pub use sim::{Parts, Sim};
 pub use tw_model::{OrMemory, Outcome};
 pub use tw_threads::{EndCause, Gate, OpenGate};

@@ -18,6 +18,14 @@ use tw_threads::{EndCause, Gate, run_all};
 use tw_workers::Worker;
 use tw_workers::laws::shares_are_at_work;
 
+/// How the workers of a run work.
+#[derive(Clone, Copy, PartialEq, Eq, Debug)]
+pub struct Options {
+    /// How many events a worker handles at most between two meetings; one that has all routers, and so nobody to meet,
+    /// handles eight times as many. 0 is taken as 1.
+    pub batch: u32,
+}
+
 /// A run that ended before its stop.
 #[derive(Drop)]
 pub struct Ended<'a> {
@@ -31,8 +39,7 @@ pub struct Ended<'a> {
 
 /// A run goes on to a stop, in ticks, that is not below its own and at most 1,000,000,000: each of its workers
 /// takes turns in a thread of its own, and asks the gate; each router keeps its worker. One without routers and messages takes its turns once the
-/// others have left, so that a gate shall not wait for it. A worker handles at most `batch` events between two meetings; one
-/// that has all routers, and so nobody to meet, eight times as many. 0 is taken as 1.
+/// others have left, so that a gate shall not wait for it.
 ///
 /// Where it ends before, for want of memory or of a thread or at a full counter, the run comes back and can go
 /// on, its bound not lower than it was; that a thread was refused is told only where all workers were told to take no
@@ -41,7 +48,7 @@ pub fn run_until<'a, G: Gate + Sync, R: Threads + Wait + Sync>(
     rt: &R,
     sim: Sim<'a>,
     stop: u64,
-    batch: u32,
+    options: Options,
     gate: &G,
 ) -> Result<Sim<'a>, Ended<'a>>
     ensures settled { IfOk result (λ s. IsSettled s) }
@@ -62,7 +69,7 @@ pub fn run_until<'a, G: Gate + Sync, R: Threads + Wait + Sync>(
     if sim.raise_stop(stop).is_err() {
         return Err(end_with(sim, EndCause::StopLower));
     }
-    run(rt, sim, batch.max(1), gate)
+    run(rt, sim, options.batch.max(1), gate)
 }
 
 /// A run goes on to its stop.

@@ -9,7 +9,9 @@ use std::alloc::{AllocError, Global};
 use std::sync::Wait;
 use std::thread::Threads;
 use tw_instance::Case;
-use tw_parallel::{EndCause, Ended, OpenGate, OrMemory, Outcome, Sim, UnfitOwners, run_until};
+use tw_parallel::{
+    EndCause, Ended, OpenGate, Options, OrMemory, Outcome, Sim, UnfitOwners, run_until,
+};
 use tw_rows::cases::case;
 use tw_rows::made::{again, again_for_memory, holds_of_made};
 use tw_rows::texts::{DISAGREE, FORBIDDEN_PATH, RANK_EXCHANGE};
@@ -108,7 +110,7 @@ fn run_on_moved<'a, X: Threads + Wait + Sync>(
     stop: u64,
     owners: &[u32],
 ) -> Option<Sim<'a>> {
-    match run_until(rt, sim, stop, 64, &OpenGate) {
+    match run_until(rt, sim, stop, Options { batch: 64 }, &OpenGate) {
         Ok(sim) => Some(sim),
         Err(ended) => go_on_moved(rt, ended, stop, owners),
     }

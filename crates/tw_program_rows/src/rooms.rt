@@ -6,7 +6,7 @@ use std::sync::Wait;
 use std::thread::Threads;
 use tw_event::{Body, Event};
 use tw_instance::Case;
-use tw_parallel::{EndCause, Ended, OpenGate, Sim, run_until};
+use tw_parallel::{EndCause, Ended, OpenGate, Options, Sim, run_until};
 use tw_rows::cases::{case, many_exchanges};
 use tw_rows::made::{again, holds_of_made};
 
@@ -57,13 +57,13 @@ fn is_over(sim: &Sim<'_>) -> bool {
 /// Whether a run that ended early has some of the run's events, and comes to stop 20 from there.
 fn goes_on_from_there<X: Threads + Wait + Sync>(rt: &X, ended: Ended<'_>) -> bool {
     let is_refused = is_refused_on_its_way(&ended);
-    let run = run_until(rt, ended.sim, 20, 64, &OpenGate);
+    let run = run_until(rt, ended.sim, 20, Options { batch: 64 }, &OpenGate);
     holds_of_made(run.ok(), |sim| is_over(sim)) && is_refused
 }
 
 /// Whether a run comes to stop 20, if need be from where it ended early, where its events are some of the run's.
 fn comes_to_20<X: Threads + Wait + Sync>(rt: &X, sim: Sim<'_>) -> bool {
-    match run_until(rt, sim, 20, 64, &OpenGate) {
+    match run_until(rt, sim, 20, Options { batch: 64 }, &OpenGate) {
         Ok(sim) => is_over(&sim),
         Err(ended) => goes_on_from_there(rt, ended),
     }

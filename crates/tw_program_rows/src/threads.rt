@@ -10,7 +10,7 @@ use std::sync::atomic::{AtomicBool, AtomicU64, Ordering};
 use std::thread::{self, Threads};
 use tw_event::Event;
 use tw_instance::Case;
-use tw_parallel::{EndCause, Ended, Gate, OpenGate, Sim, run_until};
+use tw_parallel::{EndCause, Ended, Gate, OpenGate, Options, Sim, run_until};
 use tw_rows::cases::case;
 use tw_rows::made::holds_of_made;
 use tw_rows::texts::DISAGREE;
@@ -23,14 +23,15 @@ pub(crate) fn run_on<'a, X: Threads + Wait + Sync>(
     sim: Sim<'a>,
     stop: u64,
 ) -> Result<Sim<'a>, Ended<'a>> {
-    match run_until(rt, sim, stop, 64, &OpenGate) {
+    let options = Options { batch: 64 };
+    match run_until(rt, sim, stop, options, &OpenGate) {
         Err(
             Ended {
                 sim,
                 cause: EndCause::Memory | EndCause::NoThread,
                 ..
             },
-        ) => run_until(rt, sim, stop, 64, &OpenGate),
+        ) => run_until(rt, sim, stop, options, &OpenGate),
         ended => ended,
     }
 }
@@ -125,7 +126,7 @@ pub(crate) fn goes_on_to_20<X: Threads + Wait + Sync>(rt: &X, sim: Sim<'_>) -> b
 
 /// Whether a run to stop 20, and once more from where it ended, comes there.
 fn comes_to_20<X: Threads + Wait + Sync>(rt: &X, sim: Sim<'_>) -> bool {
-    match run_until(rt, sim, 20, 64, &OpenGate) {
+    match run_until(rt, sim, 20, Options { batch: 64 }, &OpenGate) {
         Ok(sim) => goes_on_to_20(rt, sim),
         Err(ended) => {
             let is_refused = is_refused_on_its_way(&ended);
@@ -262,7 +263,7 @@ fn comes_through<G: Gate + Sync, X: Threads + Wait + Sync>(
     sim: Sim<'_>,
     gate: &G,
 ) -> Option<bool> {
-    match &run_until(rt, sim, 20, 64, gate) {
+    match &run_until(rt, sim, 20, Options { batch: 64 }, gate) {
         Ok(sim) => Some(sim.bound() == 20),
         Err(ended) => told_by(ended.cause),
     }

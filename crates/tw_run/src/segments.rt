@@ -18,7 +18,7 @@ use std::sync::Wait;
 use std::thread::Threads;
 use tw_commands::{Progress, Stages};
 use tw_options::Asked;
-use tw_parallel::{Gate, NotSettled, OrMemory, Sim, run_until};
+use tw_parallel::{Gate, NotSettled, Options, OrMemory, Sim, run_until};
 use tw_shape::{Finding, Shape, Watch};
 
 /// The workers of a run, to all of whom its routers are dealt out, go on to a stop, in ticks, which is not before
@@ -41,7 +41,7 @@ fn run_on<'a, X: Threads + Wait + Sync, O: Stages + Gate + Sync>(
     ensures stopped { IfErr result (λ why. HasStopped sim.entry why) }
 {
     observer.goes_by_all(sim.workers());
-    match run_until(rt, sim, stop, batch, observer) {
+    match run_until(rt, sim, stop, Options { batch }, observer) {
         Ok(sim) => Ok(sim),
         Err(ended) => Err(Stopped::of(ended)),
     }
