@@ -111,8 +111,9 @@ impl Peers {
     }
 }
 
+// Not inlined, since its vectors would take registers on the way of the routers that need no count.
 /// The place of a number in an order, if it stands there: as many are below it.
-#[inline(always)]
+#[inline(never)]
 fn slot_in(order: &[u16; MOST_LINKS], peer: u32) -> Option<usize>
     ensures { (row : List ℕ) → StandAsIn row order.now → IfSome result (StandsAt row peer) }
 {
