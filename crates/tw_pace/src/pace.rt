@@ -15,6 +15,14 @@ const BEGINNING: u64 = 4_000;
 /// whatever happens in a tick. The clock is read once a lap.
 const SHORT_LAP: u64 = 250;
 
+/// So long counts as lately, and what was before it half as much: a scheduler takes a processor away for milliseconds at a
+/// time, and moves work from processor to processor in some ten.
+const LATELY: u64 = 20_000;
+
+/// Where one thread has waited for a processor for more than one in so many parts of the time lately, other work takes the
+/// processors, and workers would wait for one another at each tick. What a system does by itself takes far less.
+const WORKED_FOR_EACH_WAITED: u64 = 10;
+
 /// Several are tried where what is left takes one thread so long at least: then a trial that is lost costs less than a
 /// user sees.
 const ENOUGH: u64 = 20_000;
@@ -64,6 +72,36 @@ struct Piece {
     micros: u64,
 }
 
+/// How long a thread went on, and how long of that it waited for a processor.
+#[derive(Clone, Copy, PartialEq, Eq, Debug)]
+struct Share {
+    micros: u64,
+    waited: u64,
+}
+
+impl Share {
+    const NONE: Share = Share {
+        micros: 0,
+        waited: 0,
+    };
+
+    /// With what came later; once that is long, both count half.
+    fn and(self, later: Share) -> Share {
+        let micros = self.micros.saturating_add(later.micros);
+        let waited = self.waited.saturating_add(later.waited);
+        let part = if micros > LATELY { 2 } else { 1 };
+        Share {
+            micros: micros / part,
+            waited: waited / part,
+        }
+    }
+
+    /// Whether other work takes the processors.
+    fn is_hindered(self) -> bool {
+        self.waited.saturating_mul(WORKED_FOR_EACH_WAITED) > self.micros
+    }
+}
+
 /// How far a run has come by one thread, lap by lap.
 #[derive(Clone, Copy, PartialEq, Eq, Debug)]
 pub struct Alone {
@@ -74,6 +112,7 @@ pub struct Alone {
     // In all laps since then.
     micros: u64,
     last: Piece,
+    lately: Share,
     // So long it goes on before several are tried.
     patience: u64,
 }
@@ -91,6 +130,7 @@ impl Alone {
                 ticks: 1,
                 micros: 0,
             },
+            lately: Share::NONE,
             patience: BEGINNING,
         }
     }
@@ -109,8 +149,8 @@ impl Alone {
         end_within(self.ticks, length, stop)
     }
 
-    /// Behind a lap that ended there and took so long.
-    pub fn lap(self, end: u64, micros: u64) -> Alone
+    /// Behind a lap that ended there and took so long, in which it waited so long for a processor.
+    pub fn lap(self, end: u64, micros: u64, waited: u64) -> Alone
         ensures { result.ticks ≡ end }
     {
         Alone {
@@ -120,6 +160,7 @@ impl Alone {
                 ticks: end.saturating_sub(self.ticks),
                 micros,
             },
+            lately: self.lately.and(Share { micros, waited }),
             ..self
         }
     }
@@ -134,11 +175,12 @@ impl Alone {
         }
     }
 
-    /// Whether several workers are to be tried: it was patient, and enough is left up to the stop.
+    /// Whether several workers are to be tried: it was patient, no other work takes the processors, and enough is left up to
+    /// the stop.
     pub fn is_trial_due(self, stop: u64) -> bool {
         let left = stop.saturating_sub(self.ticks);
         let rest = in_proportion(left, self.last.micros, self.last.ticks);
-        self.micros >= self.patience && rest >= ENOUGH
+        self.micros >= self.patience && !self.lately.is_hindered() && rest >= ENOUGH
     }
 }
 
@@ -270,6 +312,7 @@ impl Course {
             before: self.events,
             micros: 0,
             last: self.lap,
+            lately: Share::NONE,
             patience: lost.saturating_mul(PATIENCE).max(BEGINNING),
         }
     }

@@ -6,7 +6,7 @@ use crate::pace::{Alone, Course};
 fn steady() -> Alone {
     let mut alone = Alone::new();
     for lap in 1_u64..9 {
-        alone = alone.lap(80 * lap, 500);
+        alone = alone.lap(80 * lap, 500, 0);
     }
     alone
 }
@@ -18,7 +18,7 @@ fn opened() -> Course {
 
 #[test]
 fn a_run_with_few_events_stays_on_one_thread(rt: HostRuntime) {
-    let alone = Alone::new().lap(1, 5).lap(3, 9).lap(7, 11);
+    let alone = Alone::new().lap(1, 5, 0).lap(3, 9, 0).lap(7, 11, 0);
     assert!(rt; alone.next_end(20) == 15);
     assert!(rt; alone.next_end(10) == 10);
     assert!(rt; !alone.is_trial_due(1_000_000_000));
@@ -66,8 +66,8 @@ fn beside_other_work_a_trial_ends_with_a_stretch(rt: HostRuntime) {
     assert!(rt; lost.is_over());
     // It lost 3,001 microseconds, 900 to begin and 99 to end: 80,000 is twenty times as much.
     let alone = lost.go_on_alone(99);
-    assert!(rt; !alone.lap(672, 79_999).is_trial_due(1_000_000));
-    assert!(rt; alone.lap(672, 80_000).is_trial_due(1_000_000));
+    assert!(rt; !alone.lap(672, 79_999, 0).is_trial_due(1_000_000));
+    assert!(rt; alone.lap(672, 80_000, 0).is_trial_due(1_000_000));
     // Two stretches take one thread 300 microseconds.
     let late = opened().stretch(656, 131_200, 2_000);
     assert!(rt; !late.stretch(688, 137_600, 1_300).is_over());
@@ -81,13 +81,28 @@ fn beside_other_work_there_is_no_trial(rt: HostRuntime) {
     assert!(rt; busy.is_over());
     // It is patient for 72 milliseconds: twenty times what was lost.
     let alone = busy.go_on_alone(0);
-    assert!(rt; !alone.lap(656, 71_999).is_trial_due(1_000_000));
-    assert!(rt; alone.lap(656, 72_000).is_trial_due(1_000_000));
+    assert!(rt; !alone.lap(656, 71_999, 0).is_trial_due(1_000_000));
+    assert!(rt; alone.lap(656, 72_000, 0).is_trial_due(1_000_000));
+}
+
+#[test]
+fn one_thread_that_waits_for_its_processor_goes_on_alone(rt: HostRuntime) {
+    // 4,000 microseconds, and 1,000: a tenth is 500.
+    assert!(rt; steady().lap(720, 1_000, 500).is_trial_due(1_000_000));
+    assert!(rt; !steady().lap(720, 1_000, 501).is_trial_due(1_000_000));
+    // 7,000, of which it waited for 3,000.
+    let hindered = steady().lap(720, 3_000, 3_000);
+    assert!(rt; !hindered.is_trial_due(1_000_000));
+    // 20,001 count half, as what it waited for does: 1,500 of 10,000, and with 5,000 more a tenth.
+    let later = hindered.lap(2_320, 13_001, 0);
+    assert!(rt; !later.is_trial_due(1_000_000));
+    assert!(rt; !later.lap(2_720, 4_999, 0).is_trial_due(1_000_000));
+    assert!(rt; later.lap(2_720, 5_000, 0).is_trial_due(1_000_000));
 }
 
 #[test]
 fn a_clock_that_stands_still_or_goes_back_leaves_one_thread(rt: HostRuntime) {
-    let still = Alone::new().lap(1, 0).lap(3, 0);
+    let still = Alone::new().lap(1, 0, 0).lap(3, 0, 0);
     assert!(rt; still.next_end(1_000_000_000) == 7);
     assert!(rt; !still.is_trial_due(1_000_000_000));
     // The clock stops as workers take over.
@@ -112,8 +127,8 @@ fn a_phase_that_workers_lose_ends_their_run(rt: HostRuntime) {
     assert!(rt; lost.next_end(2_672).is_none());
     // The stretch lost 50 milliseconds, besides what it took to begin and to end.
     let alone = lost.go_on_alone(100);
-    assert!(rt; !alone.lap(2_688, 1_019_999).is_trial_due(1_000_000));
-    assert!(rt; alone.lap(2_688, 1_020_000).is_trial_due(1_000_000));
+    assert!(rt; !alone.lap(2_688, 1_019_999, 0).is_trial_due(1_000_000));
+    assert!(rt; alone.lap(2_688, 1_020_000, 0).is_trial_due(1_000_000));
 }
 
 #[test]
@@ -123,7 +138,7 @@ fn one_thread_is_tried_again_now_and_then(rt: HostRuntime) {
     assert!(rt; long.is_over());
     assert!(rt;
         long.go_on_alone(0)
-            .lap(500_100, 4_000)
+            .lap(500_100, 4_000, 0)
             .is_trial_due(10_000_000)
     );
 }

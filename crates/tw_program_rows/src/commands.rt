@@ -8,7 +8,7 @@ use std::alloc::Global;
 use std::sync::Wait;
 use std::sync::atomic::{AtomicU64, Ordering};
 use std::thread::Threads;
-use std::time::Clock;
+use std::time::{Clock, CpuClock};
 use tw_commands::{Cause, Progress, Stages, Status, count_committed};
 use tw_model::Outcome;
 use tw_rows::reports::TO_20;
@@ -71,7 +71,7 @@ impl Gate for Told {
 }
 
 /// How `run` to stop 20 by two workers ends on DISAGREE, with the log on this page.
-fn run_by_two<X: Threads + Wait + Sync + Clock>(
+fn run_by_two<X: Threads + Wait + Sync + Clock + CpuClock>(
     rt: &X,
     alloc: Global,
     page: &mut ShortPage,
@@ -93,7 +93,7 @@ fn run_by_two<X: Threads + Wait + Sync + Clock>(
 
 /// Whether `run` by two workers writes the whole log of DISAGREE, and tells that its seven events are committed. It is run
 /// once more where memory or a thread was refused and it has written nothing.
-fn writes_whole<X: Threads + Wait + Sync + Clock>(rt: &X, alloc: Global) -> bool {
+fn writes_whole<X: Threads + Wait + Sync + Clock + CpuClock>(rt: &X, alloc: Global) -> bool {
     for _ in 0..2 {
         let Ok(mut page) = ShortPage::new(alloc, AMPLE, AMPLE) else {
             continue;

@@ -11,9 +11,10 @@ ghost use Rattle.tw_seq.specs.Run.{GetsStuck, complete_run};
 use crate::dealing::owners;
 use crate::segments::{handled_by, run_to};
 use std::alloc::Global;
+use std::io;
 use std::sync::Wait;
 use std::thread::Threads;
-use std::time::Clock;
+use std::time::{Clock, CpuClock, Duration};
 use tw_commands::{Progress, Stages};
 use tw_instance::Case;
 use tw_model::OrMemory;
@@ -66,7 +67,7 @@ enum Tried<'a> {
 }
 
 /// Runs a case to the stop on one thread, or by several workers while these are faster.
-pub(crate) fn run_to_stop<'a, X: Threads + Wait + Sync + Clock, O: Progress + Stages + Gate + Sync>(
+pub(crate) fn run_to_stop<'a, X: Threads + Wait + Sync + Clock + CpuClock, O: Progress + Stages + Gate + Sync>(
     rt: &X,
     alloc: Global,
     case: &'a Case,
@@ -104,7 +105,7 @@ pub(crate) fn run_to_stop<'a, X: Threads + Wait + Sync + Clock, O: Progress + St
 }
 
 /// A run goes on by one thread, lap by lap, until several workers are to be tried; or to the stop.
-fn go_on_alone<X: Clock, O: Progress + Stages>(
+fn go_on_alone<X: Clock + CpuClock, O: Progress + Stages>(
     clock: &X,
     run: &mut TracedRun<'_>,
     stop: u64,
@@ -131,7 +132,7 @@ fn go_on_alone<X: Clock, O: Progress + Stages>(
 }
 
 /// A run goes on by one thread to a time, in ticks.
-fn go_on_to<X: Clock>(
+fn go_on_to<X: Clock + CpuClock>(
     clock: &X,
     run: &mut TracedRun<'_>,
     end: u64,
@@ -143,14 +144,16 @@ fn go_on_to<X: Clock>(
     ensures ticks { IfOk result (λ later. later.ticks ≡ end) }
     ensures full { (stop : ℕ) → end ≤ stop → IsErrOf result (or_memory.Fault counter_full) → GetsStuck run.old.run.case stop }
 {
-    let start = micros(clock);
+    let (start, used) = (micros(clock), processor_micros(clock));
     run.run_to(end)?;
-    Ok(alone.lap(end, micros(clock).saturating_sub(start)))
+    let took = micros(clock).saturating_sub(start);
+    let worked = processor_micros(clock).saturating_sub(used);
+    Ok(alone.lap(end, took, took.saturating_sub(worked)))
 }
 
 /// Several workers take over a run that one thread has brought so far. They go on to the stop, or to where one thread is
 /// faster.
-fn try_all<'a, X: Threads + Wait + Sync + Clock, O: Progress + Stages + Gate + Sync>(
+fn try_all<'a, X: Threads + Wait + Sync + Clock + CpuClock, O: Progress + Stages + Gate + Sync>(
     rt: &X,
     alloc: Global,
     run: TracedRun<'a>,
@@ -197,7 +200,7 @@ fn open_all<'a>(alloc: Global, run: TracedRun<'a>, asked: Asked) -> Result<Sim<'
 }
 
 /// Workers go on to the stop, or to where one thread is faster.
-fn go_on_by_all<'a, X: Threads + Wait + Sync + Clock, O: Progress + Stages + Gate + Sync>(
+fn go_on_by_all<'a, X: Threads + Wait + Sync + Clock + CpuClock, O: Progress + Stages + Gate + Sync>(
     rt: &X,
     alloc: Global,
     sim: Sim<'a>,
@@ -236,7 +239,7 @@ fn go_on_by_all<'a, X: Threads + Wait + Sync + Clock, O: Progress + Stages + Gat
 }
 
 /// Workers go on to a time, in ticks; in how many microseconds.
-fn go_on<'a, X: Threads + Wait + Sync + Clock, O: Stages + Gate + Sync>(
+fn go_on<'a, X: Threads + Wait + Sync + Clock + CpuClock, O: Stages + Gate + Sync>(
     rt: &X,
     alloc: Global,
     sim: Sim<'a>,
@@ -256,9 +259,19 @@ fn go_on<'a, X: Threads + Wait + Sync + Clock, O: Stages + Gate + Sync>(
     Some((sim, micros(rt).saturating_sub(start)))
 }
 
-/// What a clock shows, in microseconds; a clock that cannot be read stands still.
+/// What a clock shows, in microseconds.
 fn micros(clock: &impl Clock) -> u64 {
-    match clock.monotonic() {
+    shown(clock.monotonic())
+}
+
+/// How long this process has had processors so far, in microseconds.
+fn processor_micros(clock: &impl CpuClock) -> u64 {
+    shown(clock.process_cpu_time())
+}
+
+/// The time that a clock shows, in microseconds; a clock that cannot be read stands still.
+fn shown(time: io::Result<Duration>) -> u64 {
+    match time {
         Ok(time) => u64::try_from(time.as_micros()).unwrap_or(u64::MAX),
         Err(_) => 0,
     }

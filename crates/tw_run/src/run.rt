@@ -20,7 +20,7 @@ use std::alloc::{AllocError, Global};
 use std::snapshot::Snapshot;
 use std::sync::Wait;
 use std::thread::Threads;
-use std::time::Clock;
+use std::time::{Clock, CpuClock};
 use tw_commands::{Cause, Progress, Stages, Status, hand_back, refuse, run_on_one_thread};
 use tw_device::{Sink, Source, read_all};
 use tw_instance::Case;
@@ -42,7 +42,7 @@ use tw_text::read_case;
 /// at once, or as late as may be. Neither the two numbers nor this, nor which worker has which router, shows in what is
 /// written. With `every` the workers come together at checkpoints, and where `observer` asks for it, between them.
 pub fn run_io<
-    X: Threads + Wait + Sync + Clock,
+    X: Threads + Wait + Sync + Clock + CpuClock,
     R: Source,
     W: Sink,
     O: Progress + Stages + Gate + Sync,
@@ -68,7 +68,7 @@ pub fn run_io<
     ended
 }
 
-fn answer_text<X: Threads + Wait + Sync + Clock, W: Sink, O: Progress + Stages + Gate + Sync>(
+fn answer_text<X: Threads + Wait + Sync + Clock + CpuClock, W: Sink, O: Progress + Stages + Gate + Sync>(
     rt: &X,
     alloc: Global,
     text: &[u8],
@@ -89,7 +89,7 @@ fn answer_text<X: Threads + Wait + Sync + Clock, W: Sink, O: Progress + Stages +
 }
 
 /// Runs a case and writes the report.
-fn answer_case<X: Threads + Wait + Sync + Clock, W: Sink, O: Progress + Stages + Gate + Sync>(
+fn answer_case<X: Threads + Wait + Sync + Clock + CpuClock, W: Sink, O: Progress + Stages + Gate + Sync>(
     rt: &X,
     alloc: Global,
     case: &Case,
@@ -115,7 +115,7 @@ fn answer_case<X: Threads + Wait + Sync + Clock, W: Sink, O: Progress + Stages +
 
 /// Runs a case to the stop: by as many workers as were told, where that is more than one, since one worker has nobody to
 /// meet, and is one thread. Where none were told, the program chooses.
-fn run_case<'a, X: Threads + Wait + Sync + Clock, O: Progress + Stages + Gate + Sync>(
+fn run_case<'a, X: Threads + Wait + Sync + Clock + CpuClock, O: Progress + Stages + Gate + Sync>(
     rt: &X,
     alloc: Global,
     case: &'a Case,
@@ -137,7 +137,7 @@ fn run_case<'a, X: Threads + Wait + Sync + Clock, O: Progress + Stages + Gate + 
 
 /// Runs a case to the stop by one thread or by several workers, as its policy chooses; by one thread where checkpoints or
 /// the events are asked for, since a check of shapes, or writing events, takes longer than what workers could spare.
-fn run_chosen<'a, X: Threads + Wait + Sync + Clock, O: Progress + Stages + Gate + Sync>(
+fn run_chosen<'a, X: Threads + Wait + Sync + Clock + CpuClock, O: Progress + Stages + Gate + Sync>(
     rt: &X,
     alloc: Global,
     case: &'a Case,

@@ -31,7 +31,7 @@ use std::io::{self, BufWriter, IsTerminal, Write};
 use std::process::ExitCode;
 use std::sync::Wait;
 use std::thread::Threads;
-use std::time::Clock;
+use std::time::{Clock, CpuClock};
 use tips::{AT_A_TERMINAL, tip_for};
 use tw_commands::{Cause, Script, Status};
 use tw_device::{OverRead, OverWrite};
@@ -78,7 +78,7 @@ fn main(rt: HostRuntime) -> ExitCode {
 }
 
 /// Does what the line asks, from standard input to standard output, and shows how far it is.
-fn run<R: Input + Print + Eprint + AllocGlobal + Threads + Wait + Sync + Clock>(
+fn run<R: Input + Print + Eprint + AllocGlobal + Threads + Wait + Sync + Clock + CpuClock>(
     rt: &R,
     line: CommandLine,
     shown: Shown,
@@ -104,7 +104,7 @@ fn exit_with(rt: &impl Eprint, ended: Result<Status, Cause>, failed: Option<Devi
 }
 
 /// Reads standard input, and writes the answer to standard output. Where a device failed it is told beside that.
-fn answer<R: Input + Print + Eprint + AllocGlobal + Threads + Wait + Sync + Clock>(
+fn answer<R: Input + Print + Eprint + AllocGlobal + Threads + Wait + Sync + Clock + CpuClock>(
     rt: &R,
     line: CommandLine,
     shown: Shown,

@@ -7,7 +7,7 @@ ghost use Rattle.twarp.specs.Due.{IsRunnable, Performs};
 use std::alloc::Global;
 use std::sync::Wait;
 use std::thread::Threads;
-use std::time::Clock;
+use std::time::{Clock, CpuClock};
 use tw_commands::{
     Cause, Progress, Stages, Status, check_io, replay_io, seq_io, trail_io, upgrade_io,
 };
@@ -18,7 +18,7 @@ use tw_run::{Gate, run_io};
 /// Does what a command line asks: reads its input from the source and writes the answer that is due
 /// to the sink. Of a run the observer is told each stage as it is reached, how far it is, and what each worker does.
 pub(crate) fn perform<
-    X: Threads + Wait + Sync + Clock,
+    X: Threads + Wait + Sync + Clock + CpuClock,
     R: Source,
     W: Sink,
     O: Progress + Stages + Gate + Sync,
