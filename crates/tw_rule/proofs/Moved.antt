@@ -133,9 +133,9 @@ module _ {S E : Type 0} (m : Simulation S E) (law : IsLawful m) where
               | inl is ↦
                   let came = (moved.pending.gone e is).1 in
                   let none = none_waits e is in
-                  let here : q2.history (m.dst e) ≡ p.history (m.dst e) = ap q2.history is ∙ (moved.history.came ∙ ap p.history (sym is)) in
+                  let here : q2.history (m.dst e) ≡ p.history (m.dst e) = ap q2.history is ∙ (moved.history.followed.came ∙ ap p.history (sym is)) in
                   first.ahead e z (omega arith) (subst (λ xs. 0 < times m z xs) here k)
-              | inr ne ↦ (let stayed = moved.pending.stays_to e ne in second.ahead e z (omega arith) (subst (λ xs. 0 < times m z xs) (moved.history.stays_to (m.dst e) ne) k))
+              | inr ne ↦ (let stayed = moved.pending.stays_to e ne in second.ahead e z (omega arith) (subst (λ xs. 0 < times m z xs) (moved.history.followed.stays_to (m.dst e) ne) k))
             ];
             alone = λ e h. grind arith;
             suit = λ e h. elim (cases_lt 0 (times_handled m (whole 0 p) e + times_loose m (whole 0 p) e)) [

@@ -10,14 +10,10 @@ use Rattle.tw_rule.proofs.Moved.{both, get_beside, hand_minus, hand_plus, minus_
 use Rattle.tw_rule.proofs.Places.{all_at, total_map, total_set}
 use Rattle.tw_rule.proofs.Ruled.{owners_once, read_of}
 use Rattle.tw_rule.specs.Board.{Board}
-use Rattle.tw_rule.specs.Moving.{HasFollowed, HasPassed, IsMoved}
+use Rattle.tw_rule.specs.Moving.{HasFollowed, IsMoved}
 use Rattle.tw_rule.specs.Place.{Place, part_of}
 use Rattle.tw_rule.specs.Rule.{Rule, assembled, owning}
 use Rattle.tw_sim.specs.Simulation.{Simulation, IsLawful, times}
-
--- what has passed to another place has followed the router
-followed : {X : Type 0} {nothing : X} {r : ℕ} {from to from2 to2 : ℕ → X} → HasPassed nothing r from to from2 to2 → HasFollowed r from to from2 to2
-followed passed = record { came = passed.came; stays_from = passed.stays_from; stays_to = passed.stays_to }
 
 -- what replaces a place of a list is there
 get_set : {X : Type 0} (xs : List X) (i : ℕ) (x y : X) → slice_get xs i ≡ Some x → slice_get (set xs i y) i ≡ Some y
@@ -77,7 +73,7 @@ module _ {S E : Type 0} (m : Simulation S E) (law : IsLawful m) (who later : ℕ
             let owned : p.owns k ≡ true = ap (λ (w : Place E). w.owns k) (sym one) ∙ mine in
             elim (cases_eq k r) [
               | inl is_r ↦ grind (arith, second_now)
-              | inr ne ↦ new i k p2 first_now l (moved.owns.stays_from k ne ∙ owned) ∙ (followed.stays_from k ne ∙ sym (old i k p first l owned))
+              | inr ne ↦ new i k p2 first_now l (moved.owns.followed.stays_from k ne ∙ owned) ∙ (followed.stays_from k ne ∙ sym (old i k p first l owned))
             ]
         | inr not_i ↦ elim (cases_eq a j) [
           | inl is ↦
@@ -85,7 +81,7 @@ module _ {S E : Type 0} (m : Simulation S E) (law : IsLawful m) (who later : ℕ
               let one : z ≡ q = cc in
               let owned : q.owns k ≡ true = ap (λ (w : Place E). w.owns k) (sym one) ∙ mine in
               let ne : k ≡ r → ⊥ = λ is_r. foreign (ap q.owns (sym is_r) ∙ owned) in
-              new j k q2 second_now l (moved.owns.stays_to k ne ∙ owned) ∙ (followed.stays_to k ne ∙ sym (old j k q second l owned))
+              new j k q2 second_now l (moved.owns.followed.stays_to k ne ∙ owned) ∙ (followed.stays_to k ne ∙ sym (old j k q second l owned))
           | inr not_j ↦
               let beside = get_beside (set ps i p2) j a z q2 (λ is. not_j (sym is)) (get_beside ps i a z p2 (λ is. not_i (sym is)) there) in
               new a k z beside l mine ∙ sym (old a k z there l mine)
@@ -136,13 +132,13 @@ module _ {S E : Type 0} (m : Simulation S E) (law : IsLawful m) (who later : ℕ
   machine_moves = record {
     history = stays (λ z k. z.history k) (assembled x ps).history (assembled y ps2).history
         (λ a k z there l mine. read_of m law who (λ C. C.history k) [] x ps a k z rule there l mine)
-        (λ a k z there l mine. read_of m law later (λ C. C.history k) [] y ps2 a k z moved_rule there l mine) (followed moved.history);
+        (λ a k z there l mine. read_of m law later (λ C. C.history k) [] y ps2 a k z moved_rule there l mine) moved.history.followed;
     done = stays (λ z k. z.done k) (assembled x ps).done (assembled y ps2).done
         (λ a k z there l mine. read_of m law who (λ C. C.done k) 0 x ps a k z rule there l mine)
         (λ a k z there l mine. read_of m law later (λ C. C.done k) 0 y ps2 a k z moved_rule there l mine) moved.done;
     past = stays (λ z k. z.past k) (assembled x ps).past (assembled y ps2).past
         (λ a k z there l mine. read_of m law who (λ C. C.past k) 0 x ps a k z rule there l mine)
-        (λ a k z there l mine. read_of m law later (λ C. C.past k) 0 y ps2 a k z moved_rule there l mine) (followed moved.past);
+        (λ a k z there l mine. read_of m law later (λ C. C.past k) 0 y ps2 a k z moved_rule there l mine) moved.past.followed;
     room = stays (λ z k. z.room k) (assembled x ps).room (assembled y ps2).room
         (λ a k z there l mine. read_of m law who (λ C. C.room k) OPENING_ROOM x ps a k z rule there l mine)
         (λ a k z there l mine. read_of m law later (λ C. C.room k) OPENING_ROOM y ps2 a k z moved_rule there l mine) moved.room;

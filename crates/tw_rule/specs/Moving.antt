@@ -29,10 +29,8 @@ pub record HasFollowed {X : Type 0} (r : ℕ) (from to from2 to2 : ℕ → X) : 
 
 -- and nothing of router r's is left at the first
 pub record HasPassed {X : Type 0} (nothing : X) (r : ℕ) (from to from2 to2 : ℕ → X) : Type 0 where
+  pub followed : HasFollowed r from to from2 to2
   pub left : from2 r ≡ nothing
-  pub came : to2 r ≡ from r
-  pub stays_from : (k : ℕ) → (k ≡ r → ⊥) → from2 k ≡ from k
-  pub stays_to : (k : ℕ) → (k ≡ r → ⊥) → to2 k ≡ to k
 
 module _ {E : Type 0} where
   -- what a place has sent and hands out is as it was

@@ -184,9 +184,7 @@ module _ (case : Case) (is : IsCase case) (r : ℕ) (x : Board) (s t s2 t2 : Sha
   }
 
   passes : {X : Type 0} (read : Timeline → X) (nothing : X) → HasPassed nothing r (at read nothing s.shard) (at read nothing t.shard) (at read nothing s2.shard) (at read nothing t2.shard)
-  passes read nothing =
-      let there = follows read nothing in
-      record { left = none_left read nothing r s.shard s2.shard gone; came = there.came; stays_from = there.stays_from; stays_to = there.stays_to }
+  passes read nothing = record { followed = follows read nothing; left = none_left read nothing r s.shard s2.shard gone }
 
   -- events that a test of the router tells apart
   have_gone : (whose : Event → ℕ) (from to from2 to2 : List Event) → from2 ≡ filter (λ e. not (whose e == r)) from → to2 ≡ insert_all event_before (filter (λ e. whose e == r) from) to
@@ -274,7 +272,7 @@ module _ (case : Case) (is : IsCase case) (r : ℕ) (x : Board) (s t s2 t2 : Sha
       record {
         worker_from = ap (λ x. x.worker) moved.left.terms;
         worker_to = ap (λ x. x.worker) moved.came.terms;
-        owns = record { left = gone; came = here ∙ sym mine; stays_from = left_other; stays_to = came_other };
+        owns = record { followed = record { came = here ∙ sym mine; stays_from = left_other; stays_to = came_other }; left = gone };
         history = passes history [];
         past = passes (λ l. length l.past) 0;
         done = follows (λ l. l.done) 0;
