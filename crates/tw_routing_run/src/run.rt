@@ -1,9 +1,10 @@
 //! A run of a case, and its routers.
 
-ghost use Rattle.std.specs.Prelude.{◌≡◌, ◌≤◌, ◌<◌, IfOk};
+ghost use Rattle.std.specs.Prelude.{◌≡◌, ◌≤◌, ◌<◌, IfOk, IsErrOf};
 ghost use Rattle.tw_model.specs.Case.{simulation};
 ghost use Rattle.tw_model.specs.declared.limits.TheConstants.{LATEST};
-ghost use Rattle.tw_routing_run.specs.Ending.{router_after};
+ghost use Rattle.tw_process.specs.declared.refused.Refused.TheVariants.{CounterFull};
+ghost use Rattle.tw_routing_run.specs.Ending.{GetsStuck, router_after};
 ghost use Rattle.tw_sequential.specs.Run.{complete_run};
 
 use std::alloc::Global;
@@ -17,21 +18,24 @@ use tw_sequential::Sequential;
 ///
 /// # Errors
 ///
-/// Those of [`Sequential::run_to`], and want of memory.
+/// `CounterFull` where the run comes to an event that would pass a counter's limit; else want of memory.
 pub fn run_case<'r, 'a>(
     alloc: Global,
     routing: &'r Routing<'a>,
     stop: u64,
 ) -> Result<Sequential<'r, Routing<'a>>, Refused>
     requires { stop ≤ LATEST }
-    ensures { IfOk result (λ run. run ≡ complete_run (simulation routing.now) routing.now stop) }
+    ensures ok { IfOk result (λ run. run ≡ complete_run (simulation routing.now) routing.now stop) }
+    ensures full { IsErrOf result CounterFull → GetsStuck routing.now stop }
 {
     routing_is_simulation(routing);
     let Ok(mut run) = Sequential::open(alloc, routing) else {
         return Err(Refused::Memory);
     };
-    run.run_to(stop)?;
-    Ok(run)
+    match run.run_to(stop) {
+        Ok(()) => Ok(run),
+        Err(refused) => Err(refused),
+    }
 }
 
 /// A router as a run left it.
