@@ -1,5 +1,5 @@
 -- The lists of a ring, when an event is taken out of one.
-use Rattle.std.proofs.Common.{◌≡◌, ℕ, zero, suc, ◌+◌, ◌-◌, ◌<◌, ◌≤◌, ◌%◌, List, [], ◌∷◌, ◌++◌, Some, length, length-set, remove, set, slice_get, refl, ap, sym, ◌∙◌, subst, inl, inr, arith}
+use Rattle.std.proofs.Common.{◌≡◌, ℕ, zero, suc, ◌+◌, ◌-◌, ◌<◌, ◌%◌, List, [], ◌∷◌, Some, length, length-set, remove, set, slice_get, refl, ap, ◌∙◌, inl, inr, arith}
 use Rattle.std.proofs.lemmas.Bool.{cases_Bool}
 use Rattle.std.specs.Cmp.{IsTotalOrder}
 use Rattle.std.specs.List.{AllByRecursion}
@@ -10,7 +10,7 @@ use Rattle.tw_pending.specs.Ring.{AreDays, IsOn, IsRing, all_of}
 use Rattle.tw_pending.specs.declared.ring.TheConstants.{DAYS}
 use Rattle.tw_pending.proofs.All.{count-append, count_set}
 use Rattle.tw_pending.proofs.Counts.{law}
-use Rattle.tw_pending.proofs.Days.{get_day, length_set, nil, set_day}
+use Rattle.tw_pending.proofs.Days.{get_day, length_set, set_day}
 use Rattle.tw_pending.proofs.Removed.{all-remove, count-remove}
 
 length-remove : {X : Type 0} (xs : List X) (i : ℕ) → i < length xs → length (remove xs i) + 1 ≡ length xs
@@ -60,15 +60,7 @@ module _ {E : Type 0} (cmp : E → E → Ordering) where
         let c = count-append cmp e d (all_of ds) in
         omega arith
 
-none_without : {X : Type 0} (days : List (List X)) → length days ≡ 0 → all_of days ≡ []
-none_without [] h = refl
-none_without (d ∷ ds) h = absurd (omega arith)
-
 module _ {E : Type 0} (time : E → ℕ) (today waiting : ℕ) (days : List (List E)) (ring : IsRing time today waiting days) where
-  -- where there is no list for a tick, there is none at all
-  pub no_list : (place : ℕ) → place < DAYS → length days ≤ place → all_of days ≡ []
-  no_list place l few = elim ring.many [ inl all ↦ absurd (omega arith) | inr none ↦ none_without days none ]
-
   -- an event is taken out of a list
   module _ (place at : ℕ) (day : List E) (there : slice_get days place ≡ Some day) (l : at < length day) where
     pub some_wait : 0 < waiting

@@ -1,4 +1,4 @@
-use Rattle.std.proofs.Common.{◌++◌, [], ◌∷◌, sym, ◌∙◌, subst}
+use Rattle.std.proofs.Common.{◌++◌, [], ◌∷◌, sym, subst}
 use Rattle.std.specs.BinaryHeap.{heap_items}
 use Rattle.tw_pending.specs.Order.{AreWith}
 use Rattle.tw_pending.specs.Ring.{lists_of, waiting_in}

@@ -1,4 +1,4 @@
-use Rattle.std.proofs.Common.{◌≡◌, ◌<◌, Some, length, remove, set, slice_get, ap, sym, ◌∙◌, arith}
+use Rattle.std.proofs.Common.{◌≡◌, ◌<◌, length, remove, set, slice_get, ap, ◌∙◌, arith}
 use Rattle.std.specs.List.{prefix_len}
 use Rattle.tw_pending.specs.Order.{is_other}
 use Rattle.tw_pending.specs.Ring.{lists_of}
@@ -28,5 +28,5 @@ returns-clause-yes g c = λ day there.
       within,
       ap (slice_get day) place ∙ found g.E.Ord.cmp g.met.E.Ord.total g.met.E.Timed.exact e day (omega (arith, place, within)),
       lists_set c.args.days.now.items c.args.place c.remove.new.self
-      ∙ ap (set (lists_of c.args.days.now.items) c.args.place) (c.remove.ensures.items ∙ ap (λ xs. remove xs at) own_is),
+          ∙ ap (set (lists_of c.args.days.now.items) c.args.place) (c.remove.ensures.items ∙ ap (λ xs. remove xs at) own_is),
     )

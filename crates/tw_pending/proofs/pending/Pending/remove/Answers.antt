@@ -1,4 +1,4 @@
-use Rattle.std.proofs.Common.{◌++◌, nat_lt, ap, sym, ◌∙◌}
+use Rattle.std.proofs.Common.{◌++◌, nat_lt, ap, ◌∙◌}
 use Rattle.std.specs.BinaryHeap.{heap_items}
 use Rattle.tw_sim.specs.Ordered.{take_out}
 use Rattle.tw_pending.specs.Order.{count, is_same}

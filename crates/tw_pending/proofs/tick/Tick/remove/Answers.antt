@@ -1,4 +1,4 @@
-use Rattle.std.proofs.Common.{◌≡◌, ◌+◌, ◌<◌, ◌≤◌, Some, drop, length, length-drop, remove, slice_get, ap, sym, ◌∙◌, subst, arith}
+use Rattle.std.proofs.Common.{◌≡◌, ◌+◌, ◌≤◌, Some, drop, length-drop, remove, slice_get, ap, sym, ◌∙◌, subst, arith}
 use Rattle.std.specs.List.{prefix_len}
 use Rattle.tw_sim.specs.Ordered.{one}
 use Rattle.tw_pending.specs.Order.{IsInOrder, count, is_other, is_same}
