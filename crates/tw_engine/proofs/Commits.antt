@@ -137,9 +137,9 @@ module _ {S E N : Type 0} (m : Simulation S E) where
       subst (AllByRecursion early) (ap reverse (sym (events-reverse (take n steps))) ∙ reverse-reverse (events_of (reverse (take n steps)))) (all-reverse early (events_of (take n steps)) new) in
       all-append early (events_of (reverse (take n steps))) past newest (all_map (λ (e : E). m.time e < done) early (λ e h. omega arith) past old)
 
-  module _ (is_note : S → E → N → Type 0) (r : ℕ) where
+  module _ (latest : ℕ) (is_note : S → E → N → Type 0) (r : ℕ) where
     -- the newer steps have their notes still
-    noted_after : (past : List E) (newer older : List (Done E N)) → AreNoted m is_note r past (newer ++ older) → AreNoted m is_note r (events_of older ++ past) newer
+    noted_after : (past : List E) (newer older : List (Done E N)) → AreNoted m latest is_note r past (newer ++ older) → AreNoted m latest is_note r (events_of older ++ past) newer
     noted_after past [] older h = tt
     noted_after past (d ∷ newer) older h =
         let same : events_of (newer ++ older) ++ past ≡ events_of newer ++ (events_of older ++ past) =
@@ -154,14 +154,14 @@ module _ {S E N : Type 0} (m : Simulation S E) where
 
     -- the process is the same one, once its oldest events are committed
     pub past_committed : (knows : S) (done time n : ℕ) (past left : List E) (steps rest : List (Done E N)) → done ≤ time → n ≡ prefix_len (λ d. nat_lt (m.time d.event) time) steps
-        → left ≡ past ++ events_of (take n steps) → rest ≡ drop n steps → IsPast m is_note r (reverse past) knows done steps → IsPast m is_note r (reverse left) knows time rest
+        → left ≡ past ++ events_of (take n steps) → rest ≡ drop n steps → IsPast m latest is_note r (reverse past) knows done steps → IsPast m latest is_note r (reverse left) knows time rest
     past_committed knows done time n past left steps rest later is gone stay h =
         let now : reverse left ≡ events_of (reverse (take n steps)) ++ reverse past = ap reverse gone ∙ past_events past (take n steps) in
-        subst (λ l. IsPast m is_note r l knows time rest) (sym now)
-        (subst (IsPast m is_note r (events_of (reverse (take n steps)) ++ reverse past) knows time) (sym stay) (record {
+        subst (λ l. IsPast m latest is_note r l knows time rest) (sym now)
+        (subst (IsPast m latest is_note r (events_of (reverse (take n steps)) ++ reverse past) knows time) (sym stay) (record {
           here = h.here;
           known = h.known ∙ ap (state m r) (sym (same_history n (reverse past) steps));
-          noted = noted_after (reverse past) (reverse (drop n steps)) (reverse (take n steps)) (subst (AreNoted m is_note r (reverse past)) (parted n steps) h.noted);
+          noted = noted_after (reverse past) (reverse (drop n steps)) (reverse (take n steps)) (subst (AreNoted m latest is_note r (reverse past)) (parted n steps) h.noted);
           early = past_early done time n (reverse past) steps later is h.early;
         }))
 

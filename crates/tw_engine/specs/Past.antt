@@ -2,7 +2,6 @@
 use Rattle.std.specs.Prelude.{◌++◌, ◌-◌, ◌≡◌, ◌<◌, ℕ, true, false, not, List, [], ◌∷◌, drop, filter, length, map, nat_lt, reverse, take}
 use Rattle.std.specs.List.{AllByRecursion, suffix_len}
 use Rattle.tw_engine.specs.declared.past.Done.{Done}
-use Rattle.tw_process.specs.declared.limits.TheConstants.{LATEST}
 use Rattle.tw_sim.specs.Simulation.{Simulation, state}
 
 -- a process of a model, by its number, with the events that it has handled and not undone
@@ -19,13 +18,13 @@ pub record Handled (M E : Type 0) : Type 0 where
 abbrev pub events_of : {E N : Type 0} → List (Done E N) → List E
 events_of steps = map (λ d. d.event) steps
 
-module _ {S E N : Type 0} (m : Simulation S E) (is_note : S → E → N → Type 0) (r : ℕ) (past : List E) where
-  -- each event was one for this process and not refused, and has the note that handling it gave, after the committed ones
+module _ {S E N : Type 0} (m : Simulation S E) (latest : ℕ) (is_note : S → E → N → Type 0) (r : ℕ) (past : List E) where
+  -- each event was one for this process, before the latest time and not refused, and has the note that handling it gave, after the committed ones
   abbrev pub AreNoted : List (Done E N) → Type 0
   AreNoted [] = Unit {0}
   AreNoted (d ∷ older) =
       is_note (state m r (events_of older ++ past)) d.event d.note × (m.full (state m r (events_of older ++ past)) d.event ≡ false) × (m.dst d.event ≡ r)
-      × (m.suits d.event ≡ true) × (m.time d.event < LATEST) × AreNoted older
+      × (m.suits d.event ≡ true) × (m.time d.event < latest) × AreNoted older
 
   -- what a process knows, with what it can undo, the oldest first, and the bound at its latest commit
   pub record IsPast (knows : S) (done : ℕ) (steps : List (Done E N)) : Type 0 where

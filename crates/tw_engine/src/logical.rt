@@ -10,7 +10,6 @@ ghost use Rattle.tw_engine.specs.Past.{not_before};
 ghost use Rattle.tw_engine.specs.Process.{AreOwn, IsOneUndone, IsSameProcess, begins, committed_at, has_newest, history, is_from, process_core, rolls};
 ghost use Rattle.tw_engine.specs.declared.stopped.Stopped.TheVariants as stopped;
 ghost use Rattle.tw_process.specs.Behaviour.{simulation_of};
-ghost use Rattle.tw_process.specs.declared.limits.TheConstants.{LATEST};
 ghost use Rattle.tw_sim.specs.Seq.{insert, insert_all};
 ghost use Rattle.tw_sim.specs.Simulation.{IsFalling, IsLawful, below, only, state, times};
 
@@ -148,11 +147,11 @@ impl<'a, M: ProcessModel> LogicalProcess<'a, M> {
         least_of(model, &self.pending, kept)
     }
 
-    /// Handles its first pending event, where that is before the stop, a time in ticks.
+    /// Handles its first pending event, where that is before the stop, a time in ticks, at most the model's latest.
     ///
     /// It is the machine's own step, refused for the machine's own reasons. Where there is no memory it is as it was.
     pub fn handle_next(&mut self, stop: u64) -> Result<(), Stopped>
-        requires { stop ≤ LATEST }
+        requires { stop ≤ (M.behaviour self.old.model).latest }
         ensures ok { let m = simulation_of M.Event.parts M.Event.cmp (M.behaviour self.old.model) in
             OnOk result (handle m (process_core stop self.old) self.old.number (first_pending m (process_core stop self.old) self.old.number) ≡ Ok (process_core stop self.new)) }
         ensures refused { let m = simulation_of M.Event.parts M.Event.cmp (M.behaviour self.old.model) in

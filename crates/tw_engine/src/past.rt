@@ -3,7 +3,6 @@
 ghost use Rattle.std.specs.Prelude.{◌^◌, ◌≡◌, ◌+◌, ◌<◌, ◌≤◌, ◌↔◌, ◌++◌, ◌∷◌, [], nat_lt, true, IfOk, IfSome, IsErrOf, OnErr, OnOk, drop, length, map, slice_get, reverse, vec_capacity, vec_len};
 ghost use Rattle.std.specs.List.{AllByRecursion, list_any, prefix_len};
 ghost use Rattle.tw_process.specs.Behaviour.{simulation_of};
-ghost use Rattle.tw_process.specs.declared.limits.TheConstants.{LATEST};
 ghost use Rattle.tw_process.specs.declared.refused.Refused.TheVariants.{CounterFull};
 ghost use Rattle.tw_engine.specs.Past.{IsPast, IsUndone, committed_to, events_of, not_before};
 ghost use Rattle.tw_core.specs.Steps.{is_newest};
@@ -43,7 +42,7 @@ impl<'a, M: ProcessModel> Model for Past<'a, M> {
     ghost view = { λ a. record { model = a.model.now; number = a.number; ahead = events_of (reverse a.steps.items); past = reverse a.committed.items; done = a.done } };
 
     ghost invariant = { λ a. M.is_state a.model.now a.number a.state
-        × IsPast (simulation_of M.Event.parts M.Event.cmp (M.behaviour a.model.now)) (M.is_note a.model.now) a.number (reverse a.committed.items) (M.known a.state) a.done a.steps.items };
+        × IsPast (simulation_of M.Event.parts M.Event.cmp (M.behaviour a.model.now)) (M.behaviour a.model.now).latest (M.is_note a.model.now) a.number (reverse a.committed.items) (M.known a.state) a.done a.steps.items };
 }
 
 impl<'a, M: ProcessModel> Past<'a, M> {
@@ -147,7 +146,7 @@ impl<'a, M: ProcessModel> Past<'a, M> {
     ) -> Result<(), Refused>
         requires home { M.Event.parts.dst event ≡ self.old.number }
         requires suits { (M.behaviour self.old.model).suits event ≡ true }
-        requires time { M.Event.parts.time event < LATEST }
+        requires time { M.Event.parts.time event < (M.behaviour self.old.model).latest }
         requires room { vec_len sends.old + (M.behaviour self.old.model).most ≤ vec_capacity sends.old }
         ensures ok { OnOk result (self.new ≡ record self.old { ahead = event ∷ self.old.ahead }) }
         ensures sends { OnOk result (sends.new.items ≡ sends.old.items ++ (M.behaviour self.old.model).sends
@@ -270,13 +269,13 @@ fn advance<M: ProcessModel>(
     sends: &mut Vec<M::Event>,
 ) -> Result<(), Refused>
     requires own { M.is_state model.now number state.old }
-    requires past { IsPast (simulation_of M.Event.parts M.Event.cmp (M.behaviour model.now)) (M.is_note model.now) number (reverse committed.now.items) (M.known state.old) done steps.old.items }
+    requires past { IsPast (simulation_of M.Event.parts M.Event.cmp (M.behaviour model.now)) (M.behaviour model.now).latest (M.is_note model.now) number (reverse committed.now.items) (M.known state.old) done steps.old.items }
     requires home { M.Event.parts.dst event ≡ number }
     requires suits { (M.behaviour model.now).suits event ≡ true }
-    requires time { M.Event.parts.time event < LATEST }
+    requires time { M.Event.parts.time event < (M.behaviour model.now).latest }
     requires room { vec_len sends.old + (M.behaviour model.now).most ≤ vec_capacity sends.old }
     ensures own { M.is_state model.now number state.new }
-    ensures past { IsPast (simulation_of M.Event.parts M.Event.cmp (M.behaviour model.now)) (M.is_note model.now) number (reverse committed.now.items) (M.known state.new) done steps.new.items }
+    ensures past { IsPast (simulation_of M.Event.parts M.Event.cmp (M.behaviour model.now)) (M.behaviour model.now).latest (M.is_note model.now) number (reverse committed.now.items) (M.known state.new) done steps.new.items }
     ensures ok { OnOk result (events_of (reverse steps.new.items) ≡ event ∷ events_of (reverse steps.old.items)) }
     ensures kept { OnErr result (steps.new.items ≡ steps.old.items) }
     ensures sends { OnOk result (sends.new.items ≡ sends.old.items ++ (M.behaviour model.now).sends (M.known state.old) event) }
@@ -308,11 +307,11 @@ fn step_back<M: ProcessModel>(
     sends: &mut Vec<M::Event>,
 )
     requires own { M.is_state model.now number state.old }
-    requires past { IsPast (simulation_of M.Event.parts M.Event.cmp (M.behaviour model.now)) (M.is_note model.now) number (reverse committed.now.items) (M.known state.old) done steps.old.items }
+    requires past { IsPast (simulation_of M.Event.parts M.Event.cmp (M.behaviour model.now)) (M.behaviour model.now).latest (M.is_note model.now) number (reverse committed.now.items) (M.known state.old) done steps.old.items }
     requires some { 0 < vec_len steps.old }
     requires room { vec_len sends.old + (M.behaviour model.now).most ≤ vec_capacity sends.old }
     ensures own { M.is_state model.now number state.new }
-    ensures past { IsPast (simulation_of M.Event.parts M.Event.cmp (M.behaviour model.now)) (M.is_note model.now) number (reverse committed.now.items) (M.known state.new) done steps.new.items }
+    ensures past { IsPast (simulation_of M.Event.parts M.Event.cmp (M.behaviour model.now)) (M.behaviour model.now).latest (M.is_note model.now) number (reverse committed.now.items) (M.known state.new) done steps.new.items }
     ensures capacity { vec_capacity sends.old ≤ vec_capacity sends.new }
     ensures undone { let m = simulation_of M.Event.parts M.Event.cmp (M.behaviour model.now) in
         IsUndone m number (reverse committed.now.items) (events_of (reverse steps.old.items)) (events_of (reverse steps.new.items)) sends.old.items sends.new.items }

@@ -6,7 +6,6 @@ ghost use Rattle.tw_core.specs.declared.refusal.Refusal.{Refusal as AnyRefusal};
 ghost use Rattle.tw_engine.specs.Process.{AreOwn, IsOneUndone, joined, process_core};
 ghost use Rattle.tw_engine.specs.declared.stopped.Stopped.TheVariants as stopped;
 ghost use Rattle.tw_process.specs.Behaviour.{simulation_of};
-ghost use Rattle.tw_process.specs.declared.limits.TheConstants.{LATEST};
 
 use crate::past::Past;
 use crate::stopped::Stopped;
@@ -37,7 +36,7 @@ pub(crate) fn handle_first<M: ProcessModel>(
     sends: &mut Vec<M::Event>,
     stop: u64,
 ) -> Result<(), Stopped>
-    requires stop { stop ≤ LATEST }
+    requires stop { stop ≤ (M.behaviour past.old.model).latest }
     requires own { AreOwn (simulation_of M.Event.parts M.Event.cmp (M.behaviour past.old.model)) past.old.number pending.old }
     requires room { (M.behaviour past.old.model).most ≤ vec_capacity sends.old }
     requires empty { vec_len sends.old ≡ 0 }

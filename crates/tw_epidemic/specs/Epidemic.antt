@@ -3,6 +3,7 @@
 use Rattle.std.specs.Prelude.{ℕ, ◌+◌, ◌-◌, ◌*◌, ◌%◌, cond, false, true, not, List, [], ◌∷◌, nat_lt}
 use Rattle.tw_process.specs.Behaviour.{Behaviour}
 use Rattle.tw_process.specs.declared.event.Event.{Event}
+use Rattle.tw_process.specs.declared.limits.TheConstants.{LATEST}
 use Rattle.tw_epidemic.specs.declared.epidemic.Cell.{Cell}
 use Rattle.tw_epidemic.specs.declared.epidemic.TheConstants.{MOST_CONTACTS}
 use Rattle.tw_epidemic.specs.declared.epidemic.Epidemic.{Epidemic}
@@ -44,4 +45,5 @@ behaviour_of m = record {
   limit = 5;
   full = λ s e. not (nat_lt s.contacts MOST_CONTACTS);
   lookahead = 1;
+  latest = LATEST;
 }

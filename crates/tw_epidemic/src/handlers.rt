@@ -55,6 +55,10 @@ impl ProcessModel for Epidemic {
         1
     }
 
+    fn latest(&self) -> u64 {
+        LATEST
+    }
+
     fn begin(&self, _alloc: Global, _number: u32) -> Result<Cell, AllocError> {
         Ok(Cell::default())
     }

@@ -8,6 +8,7 @@ use Rattle.tw_process.specs.Behaviour.{Behaviour, simulation_of}
 use Rattle.tw_process.specs.First.{first}
 use Rattle.tw_process.specs.Order.{event_cmp, event_parts}
 use Rattle.tw_process.specs.declared.event.Event.{Event}
+use Rattle.tw_process.specs.declared.limits.TheConstants.{LATEST}
 use Rattle.tw_phold.specs.Random.{stepped, word_of}
 use Rattle.tw_phold.specs.declared.phold.Phold.{Phold}
 use Rattle.tw_phold.specs.declared.state.State.{State}
@@ -68,6 +69,7 @@ behaviour_of m = record {
   limit = m.jobs + MOST_HANDLED;
   full = λ s e. not (nat_lt s.handled MOST_HANDLED);
   lookahead = m.lookahead;
+  latest = LATEST;
 }
 
 -- jobs are ordered by time, receiver, sender and number

@@ -11,6 +11,7 @@ use crate::phold::Phold;
 use crate::random::{step, step_back, word};
 use crate::state::{MOST_HANDLED, State};
 use std::alloc::{AllocError, Global};
+use tw_process::limits::LATEST;
 use tw_process::{Event, ProcessModel, Refused};
 
 impl Phold {
@@ -108,6 +109,10 @@ impl ProcessModel for Phold {
 
     fn lookahead(&self) -> u64 {
         u64::from(self.lookahead)
+    }
+
+    fn latest(&self) -> u64 {
+        LATEST
     }
 
     fn begin(&self, _alloc: Global, number: u32) -> Result<State, AllocError> {

@@ -26,6 +26,8 @@ pub record Behaviour (S E : Type 0) : Type 0 where
   pub full : S → E → Bool
   -- what is sent is at least so much later than the event that sends it, in ticks
   pub lookahead : ℕ
+  -- no event at or after this time is handled, in ticks
+  pub latest : ℕ
 
 -- the simulation of a model whose events have these parts and this order
 abbrev pub simulation_of : {S E : Type 0} → Parts E → (E → E → Ordering) → Behaviour S E → Simulation S E

@@ -1,9 +1,10 @@
 //! What holds of every model.
 
-ghost use Rattle.std.specs.Prelude.{◌≡◌, ◌<◌};
+ghost use Rattle.std.specs.Prelude.{◌≡◌, ◌<◌, ◌≤◌};
 ghost use Rattle.tw_process.specs.Behaviour.{IsLookahead, simulation_of};
 ghost use Rattle.tw_process.specs.Order.{event_cmp};
 ghost use Rattle.tw_process.specs.declared.event.Event.{Event as AnEvent};
+ghost use Rattle.tw_process.specs.declared.limits.TheConstants.{LATEST};
 ghost use Rattle.std.specs.declared.cmp.Ordering.TheVariants.{Equal};
 ghost use Rattle.tw_sim.specs.Simulation.{IsLawful, IsNumbered};
 
@@ -18,6 +19,7 @@ pub fn model_is_lawful<M: ProcessModel>(model: &M)
     ensures numbered { IsNumbered (simulation_of M.Event.parts M.Event.cmp (M.behaviour model.now)) }
     ensures ahead { IsLookahead (simulation_of M.Event.parts M.Event.cmp (M.behaviour model.now)) (M.behaviour model.now).lookahead }
     ensures positive { 0 < (M.behaviour model.now).lookahead }
+    ensures latest { (M.behaviour model.now).latest ≤ LATEST }
 {
     model.keeps_laws();
 }

@@ -44,7 +44,8 @@ pub trait ProcessModel {
     /// Tells what holds of every model of this type. It does nothing.
     fn keeps_laws(&self)
         ensures behaved { IsBehaved (simulation_of Self.Event.parts Self.Event.cmp (behaviour self.now)) (behaviour self.now).lookahead }
-        ensures numbered { IsNumbered (simulation_of Self.Event.parts Self.Event.cmp (behaviour self.now)) };
+        ensures numbered { IsNumbered (simulation_of Self.Event.parts Self.Event.cmp (behaviour self.now)) }
+        ensures latest { (behaviour self.now).latest ≤ LATEST };
 
     /// How many processes there are. They are numbered from 0.
     fn processes(&self) -> u32
@@ -57,6 +58,10 @@ pub trait ProcessModel {
     /// How much later than the event that sends it every event is at least, in ticks.
     fn lookahead(&self) -> u64
         ensures { result ≡ (behaviour self.now).lookahead };
+
+    /// No event at or after this time is handled, in ticks. It is at most 2^63.
+    fn latest(&self) -> u64
+        ensures { result ≡ (behaviour self.now).latest };
 
     /// A process as it begins.
     fn begin(&self, alloc: Global, number: u32) -> Result<Self::State, AllocError>
@@ -82,7 +87,7 @@ pub trait ProcessModel {
         requires own { is_state self.now number state.old }
         requires home { Self.Event.parts.dst event.now ≡ number }
         requires suits { (behaviour self.now).suits event.now ≡ true }
-        requires time { Self.Event.parts.time event.now < LATEST }
+        requires time { Self.Event.parts.time event.now < (behaviour self.now).latest }
         ensures own { is_state self.now number state.new }
         ensures state { OnOk result (known state.new ≡ (behaviour self.now).after (known state.old) event.now) }
         ensures note { IfOk result (λ r. is_note self.now (known state.old) event.now r) }
@@ -101,7 +106,7 @@ pub trait ProcessModel {
         requires own { is_state self.now number state.now }
         requires home { Self.Event.parts.dst event.now ≡ number }
         requires suits { (behaviour self.now).suits event.now ≡ true }
-        requires time { Self.Event.parts.time event.now < LATEST }
+        requires time { Self.Event.parts.time event.now < (behaviour self.now).latest }
         requires room { vec_len sends.old + (behaviour self.now).most ≤ vec_capacity sends.old }
         requires note { (before : Self.Known) × is_note self.now before event.now note
             × (known state.now ≡ (behaviour self.now).after before event.now)
@@ -136,7 +141,7 @@ pub trait ProcessModel {
         requires own { is_state self.now number state.old }
         requires home { Self.Event.parts.dst event.now ≡ number }
         requires suits { (behaviour self.now).suits event.now ≡ true }
-        requires time { Self.Event.parts.time event.now < LATEST }
+        requires time { Self.Event.parts.time event.now < (behaviour self.now).latest }
         requires room { vec_len sends.old + (behaviour self.now).most ≤ vec_capacity sends.old }
         ensures own { is_state self.now number state.new }
         ensures state { OnOk result (known state.new ≡ (behaviour self.now).after (known state.old) event.now) }
@@ -166,7 +171,7 @@ pub trait ProcessModel {
         requires own { is_state self.now number state.old }
         requires home { Self.Event.parts.dst event.now ≡ number }
         requires suits { (behaviour self.now).suits event.now ≡ true }
-        requires time { Self.Event.parts.time event.now < LATEST }
+        requires time { Self.Event.parts.time event.now < (behaviour self.now).latest }
         requires room { vec_len sends.old + (behaviour self.now).most ≤ vec_capacity sends.old }
         requires note { (before : Self.Known) × is_note self.now before event.now note
             × (known state.old ≡ (behaviour self.now).after before event.now)

@@ -1,9 +1,8 @@
 -- What handling the next event does to a run and to the states of its processes.
-use Rattle.std.proofs.Common.{◌≡◌, ℕ, ◌+◌, ◌<◌, ◌++◌, true, List, [], ◌∷◌, Some, drop, length, set, slice_get, take, refl, ap, sym, subst, inl, inr, arith}
+use Rattle.std.proofs.Common.{◌≡◌, ℕ, ◌+◌, ◌<◌, ◌≤◌, ◌++◌, true, List, [], ◌∷◌, Some, drop, length, set, slice_get, take, refl, ap, sym, subst, inl, inr, arith}
 use Rattle.std.specs.declared.cmp.Ordering.{Ordering}
 use Rattle.tw_process.specs.Behaviour.{Behaviour, simulation_of}
 use Rattle.tw_process.specs.Parts.{Parts}
-use Rattle.tw_process.specs.declared.limits.TheConstants.{LATEST}
 use Rattle.tw_sequential.specs.declared.limits.TheConstants.{MOST_EVENTS}
 use Rattle.tw_sequential.specs.Run.{IsNext, IsNextRun, IsStuck, Run, run_after}
 use Rattle.tw_sequential.specs.States.{AreStates, IsRunWith}
@@ -50,8 +49,9 @@ module _ {M T S E : Type 0} {m : Simulation S E} {is_state : ℕ → T → Type 
   pub within : m.dst e < length states
   within = let here = ready.law.receiver e suits in let count = ready.kept.are.count in omega arith
 
-  pub early : m.time e < LATEST
-  early = let soon = ready.next.2 in let most = ready.kept.stop in omega arith
+  -- it is before each time that the stop is not after
+  pub early : (latest : ℕ) → stop ≤ latest → m.time e < latest
+  early latest most = let soon = ready.next.2 in omega (arith, most)
 
   module _ (number : ℕ) (home : m.dst e ≡ number) where
     pub own : (s : T) → slice_get states number ≡ Some s → is_state number s

@@ -2,7 +2,6 @@
 
 ghost use Rattle.std.specs.Prelude.{◌≡◌, ◌≤◌, ◌<◌, ◌↔◌, true, Some, IsErrOf, OnErr, OnOk, drop, length, slice_get, slice_set, vec_capacity, vec_len};
 ghost use Rattle.tw_pending.specs.Order.{is_before};
-ghost use Rattle.tw_process.specs.declared.limits.TheConstants.{LATEST};
 ghost use Rattle.tw_process.specs.declared.refused.Refused.TheVariants.{CounterFull};
 ghost use Rattle.tw_sim.specs.Ordered.{insert_all};
 
@@ -23,7 +22,7 @@ pub(crate) fn handle<M: ProcessModel>(
     requires own { M.is_state model.now number state.old }
     requires home { M.Event.parts.dst event.now ≡ number }
     requires suits { (M.behaviour model.now).suits event.now ≡ true }
-    requires time { M.Event.parts.time event.now < LATEST }
+    requires time { M.Event.parts.time event.now < (M.behaviour model.now).latest }
     requires room { (M.behaviour model.now).most ≤ vec_capacity sends.old }
     requires empty { vec_len sends.old ≡ 0 }
     ensures room { vec_capacity sends.old ≤ vec_capacity sends.new }
@@ -60,7 +59,7 @@ pub(crate) fn handle_at<M: ProcessModel>(
     requires own { (s : M.State) → slice_get states.old number ≡ Some s → M.is_state model.now number s }
     requires home { M.Event.parts.dst event.now ≡ number }
     requires suits { (M.behaviour model.now).suits event.now ≡ true }
-    requires time { M.Event.parts.time event.now < LATEST }
+    requires time { M.Event.parts.time event.now < (M.behaviour model.now).latest }
     requires room { (M.behaviour model.now).most ≤ vec_capacity sends.old }
     requires empty { vec_len sends.old ≡ 0 }
     ensures room { vec_capacity sends.old ≤ vec_capacity sends.new }

@@ -2,7 +2,6 @@
 
 ghost use Rattle.std.specs.Prelude.{◌≡◌, ◌≤◌, ◌<◌, IfNone, IfOk, IfSome, IsErrOf, OnErr, OnOk, length, max, slice_get};
 ghost use Rattle.tw_process.specs.Behaviour.{simulation_of};
-ghost use Rattle.tw_process.specs.declared.limits.TheConstants.{LATEST};
 ghost use Rattle.tw_process.specs.declared.refused.Refused.TheVariants.{CounterFull};
 ghost use Rattle.tw_sequential.specs.Run.{Continues, IsBegun, IsNext, IsNextRun, IsStuck, NoneBefore, complete_run, opening_run};
 ghost use Rattle.tw_sim.specs.Simulation.{only, state};
@@ -43,7 +42,8 @@ impl<'a, M: ProcessModel> Model for Sequential<'a, M> {
 
     ghost invariant = { λ a. let m = simulation_of M.Event.parts M.Event.cmp (M.behaviour a.model.now) in
         IsRunWith m (M.is_state a.model.now) M.known (run_after m a.model.now a.stop a.handled a.pending) a.handled a.states.items
-        × (vec_len a.sends ≡ 0) × ((M.behaviour a.model.now).most ≤ vec_capacity a.sends) };
+        × (vec_len a.sends ≡ 0) × ((M.behaviour a.model.now).most ≤ vec_capacity a.sends)
+        × (a.stop ≤ (M.behaviour a.model.now).latest) };
 }
 
 impl<'a, M: ProcessModel> Sequential<'a, M> {
@@ -65,13 +65,14 @@ impl<'a, M: ProcessModel> Sequential<'a, M> {
         })
     }
 
-    /// Handles all events before `stop`, in ticks, and before each stop asked for earlier. A stop is at most 2^63.
+    /// Handles all events before `stop`, in ticks, and before each stop asked for earlier. A stop is at most the
+    /// model's latest time.
     ///
     /// After a refusal the events before the refused one stand handled, and nothing else has changed; a later call
     /// goes on from there. It is `CounterFull` exactly where handling the least pending event would pass the limit of
     /// one of the model's counters, or of the run's own count of events, and want of memory else.
     pub fn run_to(&mut self, stop: u64) -> Result<(), Refused>
-        requires { stop ≤ LATEST }
+        requires { stop ≤ (M.behaviour self.old.model).latest }
         ensures ok { let m = simulation_of M.Event.parts M.Event.cmp (M.behaviour self.old.model) in
             OnOk result (self.new ≡ complete_run m self.old.model (max self.old.stop stop)) }
         ensures model { self.new.model ≡ self.old.model }
@@ -135,9 +136,10 @@ impl<'a, M: ProcessModel> Sequential<'a, M> {
 
     /// The stop becomes the greater of itself and `stop`.
     fn raise_stop(&mut self, stop: u64)
-        requires { stop ≤ LATEST }
+        requires { stop ≤ (M.behaviour self.old.model).latest }
         ensures { self.new ≡ record self.old { stop = max self.old.stop stop } }
     {
+        model_is_lawful(self.model);
         if self.stop < stop {
             self.stop = stop;
         }

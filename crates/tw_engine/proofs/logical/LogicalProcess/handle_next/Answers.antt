@@ -1,4 +1,4 @@
-use Rattle.std.proofs.Common.{◌≡◌, ◌↔◌, Ok, Err, OnOk, subst}
+use Rattle.std.proofs.Common.{◌≤◌, sym, ◌≡◌, ◌↔◌, Ok, Err, OnOk, subst}
 use Rattle.std.specs.Result.{IsErrOf}
 use Rattle.tw_core.specs.Steps.{first_pending, handle}
 use Rattle.tw_core.specs.declared.refusal.Refusal.{Refusal}
@@ -6,6 +6,9 @@ use Rattle.tw_engine.specs.Process.{joined, process_core}
 use Rattle.tw_engine.specs.declared.stopped.Stopped.TheVariants as stopped
 use Rattle.tw_process.specs.Behaviour.{simulation_of}
 use Rattle.tw_engine.proofs.logical.LogicalProcess.handle_next.Goals as goal
+
+pub handle_first-requires-clause-stop : goal.handle_first-requires-clause-stop
+handle_first-requires-clause-stop g c = subst (λ p. c.args.stop ≤ (g.M.ProcessModel.behaviour p.model).latest) (sym c.self.view_is) c.requires
 
 pub returns-clause-ok : goal.returns-clause-ok
 returns-clause-ok g c =

@@ -19,7 +19,7 @@ invariant_of-self-2 g c =
     let gone : c.add_events.new.events.items ≡ past ++ events_of (take n steps) = c.add_events.ensures ∙ (ap (λ xs. xs ++ map (λ d. d.event) (take n c.deref-2.result.now)) c.in_ok-reserve.ensures.items ∙ ap (λ ys. past ++ map (λ d. d.event) (take n ys)) c.deref-2.ensures.value) in
     let later : a.done ≤ bound = subst (λ p. p.done ≤ bound) (sym c.self.view_is) c.requires in (
       c.self.invariant.0,
-      past_committed m (g.M.ProcessModel.is_note a.model.now) a.number (g.M.ProcessModel.known a.state) a.done bound n past c.add_events.new.events.items steps c.drop_first.new.steps.items
+      past_committed m (g.M.ProcessModel.behaviour a.model.now).latest (g.M.ProcessModel.is_note a.model.now) a.number (g.M.ProcessModel.known a.state) a.done bound n past c.add_events.new.events.items steps c.drop_first.new.steps.items
           later first gone c.drop_first.ensures c.self.invariant.1,
     )
 

@@ -5,7 +5,7 @@ use Rattle.tw_process.specs.Behaviour.{simulation_of}
 use Rattle.tw_process.specs.declared.refused.Refused.{Refused}
 use Rattle.tw_process.specs.declared.refused.Refused.TheVariants.{CounterFull}
 use Rattle.tw_sequential.specs.Run.{IsNextRun, IsStuck, run_after}
-use Rattle.tw_sequential.proofs.Step.{done_kept, done_next, other_items, ready, same_kept, stuck_told, suits, told_stuck, within}
+use Rattle.tw_sequential.proofs.Step.{done_kept, done_next, early, other_items, ready, same_kept, stuck_told, suits, told_stuck, within}
 use Rattle.tw_sequential.proofs.sequential.Sequential.handle_next.Goals as goal
 
 pub handle_at-requires-clause-within : goal.handle_at-requires-clause-within
@@ -22,6 +22,12 @@ handle_at-requires-clause-suits g c =
     c.self.view_is c.requires in
     suits next
 
+pub handle_at-requires-clause-time : goal.handle_at-requires-clause-time
+handle_at-requires-clause-time g c =
+    let next = ready g.M.Event.Timed.parts g.M.Event.Ord.cmp g.M.ProcessModel.behaviour g.M.ProcessModel.is_state g.M.ProcessModel.known c.model_is_lawful.ensures.lawful c.self.invariant.0
+    c.self.view_is c.requires in
+    early next _ c.self.invariant.3
+
 pub invariant_of-self : goal.invariant_of-self
 invariant_of-self g c =
     let next = ready g.M.Event.Timed.parts g.M.Event.Ord.cmp g.M.ProcessModel.behaviour g.M.ProcessModel.is_state g.M.ProcessModel.known c.model_is_lawful.ensures.lawful c.self.invariant.0
@@ -37,6 +43,7 @@ invariant_of-self g c =
           c.in_err-handle_at.ensures.err,
       c.in_err-handle_at.ensures.empty,
       omega (arith, c.in_err-handle_at.ensures.room, c.self.invariant.2),
+      c.self.invariant.3,
     )
 
 pub returns-in_err-handle_at-clause-full : goal.returns-in_err-handle_at-clause-full
@@ -78,6 +85,7 @@ invariant_of-self-2 g c =
           (k.0, items ∙ (k.1 ∙ ap (λ xs. set xs number k.0) value), k.2, k.3, k.5)),
       c.in_ok-handle_at.ensures.empty,
       omega (arith, c.in_ok-handle_at.ensures.room, c.self.invariant.2),
+      c.self.invariant.3,
     )
 
 pub returns-clause-ok : goal.returns-clause-ok
