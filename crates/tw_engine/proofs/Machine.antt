@@ -1,5 +1,5 @@
 -- The machine's steps at the state that a logical process is.
-use Rattle.std.proofs.Common.{◌≡◌, ℕ, ◌-◌, ◌<◌, ◌≤◌, ◌==◌, ◌↔◌, ◌^◌, Bool, true, false, List, [], ◌∷◌, ◌++◌, drop, length, map, slice_get, Option, Some, None, Result, Ok, Err, refl, ap, sym, ◌∙◌, subst, inl, inr, arith}
+use Rattle.std.proofs.Common.{◌≡◌, ℕ, ◌-◌, ◌<◌, ◌≤◌, ◌==◌, ◌↔◌, ◌^◌, Bool, true, false, List, [], ◌∷◌, ◌++◌, drop, length, length-append, map, slice_get, Option, Some, None, Result, Ok, Err, refl, ap, sym, ◌∙◌, subst, inl, inr, arith}
 use Rattle.std.proofs.Math.Path.{fun_ext}
 use Rattle.std.proofs.lemmas.Bool.{cases_Bool, cond-true, eq-eqb, false_from_ne_true, le-ltb, lt-ltb}
 use Rattle.std.specs.Result.{IsErrOf}
@@ -7,13 +7,12 @@ use Rattle.tw_core.specs.Machine.{Core, count_ahead}
 use Rattle.tw_core.specs.Steps.{after_handling, first_pending, handle, is_newest, message, put, take_out}
 use Rattle.tw_core.specs.declared.refusal.Refusal.{Refusal}
 use Rattle.tw_core.specs.declared.refusal.Refusal.TheVariants.{CounterFull, Double, Nothing}
-use Rattle.tw_engine.specs.Process.{AreOwn, Logical, joined, process_core}
+use Rattle.tw_engine.specs.Process.{AreOwn, Logical, history, joined, process_core}
 use Rattle.tw_engine.specs.Past.{Handled}
 use Rattle.tw_engine.specs.declared.stopped.Stopped.{Stopped}
 use Rattle.tw_engine.specs.declared.stopped.Stopped.TheVariants as stopped
 use Rattle.tw_process.specs.declared.refused.Refused.{Refused}
 use Rattle.tw_process.specs.declared.refused.Refused.TheVariants as refused
-use Rattle.tw_sim.specs.declared.machine.Cancel.TheVariants.{Aggressive}
 use Rattle.tw_sim.specs.declared.machine.Signed.{Signed}
 use Rattle.tw_sim.specs.Ordered.{least}
 use Rattle.tw_sim.specs.Simulation.{Simulation, IsLawful, only, state}
@@ -45,29 +44,25 @@ not_full x b is h = false_from_ne_true b (λ t. let k = h.1 t in cc)
 pub not_full_ok : {T : Type 0} (t : T) (b : Bool) → (IsErrOf {E = Refused} (Ok t) refused.CounterFull ↔ (b ≡ true)) → b ≡ false
 not_full_ok t b h = false_from_ne_true b (λ is. let k = h.1 is in cc)
 
+-- a function that has another value at one place, with a third there
+pub same_put : {A : Type 0} (d : A) (r : ℕ) (h k : A) → put (put (λ q. d) r h) r k ≡ put (λ q. d) r k
+same_put d r h k = fun_ext (λ q. elim (cases_Bool (q == r)) [ inl b ↦ rw b refl | inr b ↦ rw b refl ])
+
+-- the machine sees the process's own history
+pub there : {M E : Type 0} (stop : ℕ) (p : Logical M E) → (process_core stop p).history p.number ≡ history p
+there stop p = cond-true (p.number == p.number) (history p) [] (eq-eqb p.number p.number refl)
+
+-- and what it has committed
+pub committed : {M E : Type 0} (stop : ℕ) (p : Logical M E) → (process_core stop p).past p.number ≡ length p.past
+committed stop p = cond-true (p.number == p.number) (length p.past) 0 (eq-eqb p.number p.number refl)
+
 module _ {S E : Type 0} (m : Simulation S E) where
-  -- a machine with these lists
-  abbrev core_at : ℕ → (ℕ → List E) → List E → List (Signed E) → Core E
-  core_at stop history pending flight = record {
-    history = history;
-    pending = pending;
-    kept = [];
-    flight = flight;
-    held = [];
-    done = λ r. 0;
-    past = λ r. 0;
-    room = λ r. 2 ^ 64;
-    bound = 0;
-    stop = stop;
-    cancel = Aggressive;
-  }
+  -- the machine of a process, with other lists
+  abbrev core_at : {M : Type 0} → ℕ → Logical M E → (ℕ → List E) → List E → List (Signed E) → Core E
+  core_at stop p history pending flight = record (process_core stop p) { history = history; pending = pending; flight = flight }
 
-  same_core : (stop : ℕ) (h k : ℕ → List E) (a b : List E) (f g : List (Signed E)) → h ≡ k → a ≡ b → f ≡ g → core_at stop h a f ≡ core_at stop k b g
-  same_core stop h k a b f g x y z = ap (λ v. core_at stop v a f) x ∙ (ap (λ v. core_at stop k v f) y ∙ ap (λ v. core_at stop k b v) z)
-
-  -- one history, put in place of another
-  same_put : (r : ℕ) (h k : List E) → put (put (λ q. []) r h) r k ≡ put (λ q. []) r k
-  same_put r h k = fun_ext (λ q. elim (cases_Bool (q == r)) [ inl b ↦ rw b refl | inr b ↦ rw b refl ])
+  same_core : {M : Type 0} (stop : ℕ) (p : Logical M E) (h k : ℕ → List E) (a b : List E) (f g : List (Signed E)) → h ≡ k → a ≡ b → f ≡ g → core_at stop p h a f ≡ core_at stop p k b g
+  same_core stop p h k a b f g x y z = ap (λ v. core_at stop p v a f) x ∙ (ap (λ v. core_at stop p k v f) y ∙ ap (λ v. core_at stop p k b v) z)
 
   -- the machine's tests, one by one
   handle_full : (C : Core E) (r : ℕ) (e : E) → m.time e < C.stop → is_newest m e (C.history r) ≡ false → count_ahead C r < C.room r → m.full (state m r (C.history r)) e ≡ true
@@ -105,25 +100,24 @@ module _ {S E : Type 0} (m : Simulation S E) where
     pub late : (e : E) → slice_get p.pending 0 ≡ Some e → stop ≤ m.time e → answer ≡ Err Nothing
     late e h l = first (Some e) h ∙ rw (le-ltb (m.time e) stop l) refl
 
-    pub double : (e : E) → slice_get p.pending 0 ≡ Some e → m.time e < stop → is_newest m e p.history ≡ true → answer ≡ Err Double
+    pub double : (e : E) → slice_get p.pending 0 ≡ Some e → m.time e < stop → is_newest m e (history p) ≡ true → answer ≡ Err Double
     double e h l n = first (Some e) h ∙ rw (lt-ltb (m.time e) stop l, here, n) refl
 
-    module _ (e : E) (h : slice_get p.pending 0 ≡ Some e) (l : m.time e < stop) (n : is_newest m e p.history ≡ false) (few : length p.history < 2 ^ 64) where
-      -- the machine sees the process's own history
-      there : (process_core stop p).history p.number ≡ p.history
-      there = cond-true (p.number == p.number) p.history [] here
-
+    module _ (e : E) (h : slice_get p.pending 0 ≡ Some e) (l : m.time e < stop) (n : is_newest m e (history p) ≡ false) (few : length p.ahead < 2 ^ 64) where
       n_there : is_newest m e ((process_core stop p).history p.number) ≡ false
-      n_there = subst (λ older. is_newest m e older ≡ false) (sym there) n
+      n_there = subst (λ older. is_newest m e older ≡ false) (sym (there stop p)) n
 
       fits : count_ahead (process_core stop p) p.number < (process_core stop p).room p.number
-      fits = subst (λ older. length older - 0 < 2 ^ 64) (sym there) (omega arith)
+      fits =
+          let both = length-append p.ahead p.past in
+          subst (λ older. length older - (process_core stop p).past p.number < 2 ^ 64) (sym (there stop p))
+          (subst (λ past. length (history p) - past < 2 ^ 64) (sym (committed stop p)) (omega arith))
 
-      pub counter_full : m.full (state m p.number p.history) e ≡ true → answer ≡ Err CounterFull
-      counter_full f = first (Some e) h ∙ handle_full (process_core stop p) p.number e l n_there fits (subst (λ older. m.full (state m p.number older) e ≡ true) (sym there) f)
+      pub counter_full : m.full (state m p.number (history p)) e ≡ true → answer ≡ Err CounterFull
+      counter_full f = first (Some e) h ∙ handle_full (process_core stop p) p.number e l n_there fits (subst (λ older. m.full (state m p.number older) e ≡ true) (sym (there stop p)) f)
 
-      pub done : m.full (state m p.number p.history) e ≡ false → answer ≡ Ok (after_handling m (process_core stop p) p.number e)
-      done f = first (Some e) h ∙ handle_done (process_core stop p) p.number e l n_there fits (subst (λ older. m.full (state m p.number older) e ≡ false) (sym there) f)
+      pub done : m.full (state m p.number (history p)) e ≡ false → answer ≡ Ok (after_handling m (process_core stop p) p.number e)
+      done f = first (Some e) h ∙ handle_done (process_core stop p) p.number e l n_there fits (subst (λ older. m.full (state m p.number older) e ≡ false) (sym (there stop p)) f)
 
       taken : (xs : List E) → slice_get xs 0 ≡ Some e → take_out m e xs ≡ drop 1 xs
       taken [] g = cc
@@ -131,21 +125,21 @@ module _ {S E : Type 0} (m : Simulation S E) where
 
       -- what the process is then
       pub handled : after_handling m (process_core stop p) p.number e
-          ≡ process_core stop (record p { history = e ∷ p.history; pending = drop 1 p.pending; flight = p.flight ++ map message (m.sends (state m p.number p.history) e) })
+          ≡ process_core stop (record p { ahead = e ∷ p.ahead; pending = drop 1 p.pending; flight = p.flight ++ map message (m.sends (state m p.number (history p)) e) })
       handled =
-          same_core stop _ _ _ _ _ _
-          (ap (λ older. put (put (λ q. []) p.number p.history) p.number (e ∷ older)) there ∙ same_put p.number p.history (e ∷ p.history))
+          same_core stop p _ _ _ _ _ _
+          (ap (λ older. put (put (λ q. []) p.number (history p)) p.number (e ∷ older)) (there stop p) ∙ same_put [] p.number (history p) (e ∷ history p))
           (taken p.pending h)
-          (ap (λ older. p.flight ++ map message (m.sends (state m p.number older) e)) there)
+          (ap (λ older. p.flight ++ map message (m.sends (state m p.number older) e)) (there stop p))
 
       -- and so it is, where its parts are these
-      pub as_told : (q : Handled M E) (rest sent before : List E) (flight reserved : List (Signed E)) → q ≡ record { model = p.model; number = p.number; history = e ∷ p.history }
-          → rest ≡ drop 1 p.pending → before ≡ [] → sent ≡ before ++ m.sends (state m p.number p.history) e → flight ≡ reserved ++ map message sent → reserved ≡ p.flight
-          → m.full (state m p.number p.history) e ≡ false → answer ≡ Ok (process_core stop (joined q rest flight))
+      pub as_told : (q : Handled M E) (rest sent before : List E) (flight reserved : List (Signed E)) → q ≡ record { model = p.model; number = p.number; ahead = e ∷ p.ahead; past = p.past; done = p.done }
+          → rest ≡ drop 1 p.pending → before ≡ [] → sent ≡ before ++ m.sends (state m p.number (history p)) e → flight ≡ reserved ++ map message sent → reserved ≡ p.flight
+          → m.full (state m p.number (history p)) e ≡ false → answer ≡ Ok (process_core stop (joined q rest p.kept flight p.bound))
       as_told q rest sent before flight reserved a b nothing of out same f =
-          let to : Handled M E = record { model = p.model; number = p.number; history = e ∷ p.history } in
-          let all : sent ≡ m.sends (state m p.number p.history) e = of ∙ ap (λ xs. xs ++ m.sends (state m p.number p.history) e) nothing in
-          let flies : flight ≡ p.flight ++ map message (m.sends (state m p.number p.history) e) = out ∙ (ap (λ xs. xs ++ map message sent) same ∙ ap (λ xs. p.flight ++ map message xs) all) in
-          let joins : joined q rest flight ≡ joined to (drop 1 p.pending) (p.flight ++ map message (m.sends (state m p.number p.history) e)) =
-          ap (λ x. joined x rest flight) a ∙ (ap (λ x. joined to x flight) b ∙ ap (λ x. joined to (drop 1 p.pending) x) flies) in
+          let to : Handled M E = record { model = p.model; number = p.number; ahead = e ∷ p.ahead; past = p.past; done = p.done } in
+          let all : sent ≡ m.sends (state m p.number (history p)) e = of ∙ ap (λ xs. xs ++ m.sends (state m p.number (history p)) e) nothing in
+          let flies : flight ≡ p.flight ++ map message (m.sends (state m p.number (history p)) e) = out ∙ (ap (λ xs. xs ++ map message sent) same ∙ ap (λ xs. p.flight ++ map message xs) all) in
+          let joins : joined q rest p.kept flight p.bound ≡ joined to (drop 1 p.pending) p.kept (p.flight ++ map message (m.sends (state m p.number (history p)) e)) p.bound =
+          ap (λ x. joined x rest p.kept flight p.bound) a ∙ (ap (λ x. joined to x p.kept flight p.bound) b ∙ ap (λ x. joined to (drop 1 p.pending) p.kept x p.bound) flies) in
           done f ∙ ap Ok (handled ∙ sym (ap (process_core stop) joins))

@@ -1,51 +1,142 @@
--- Undoing events one by one.
-use Rattle.std.proofs.Common.{◌≡◌, ℕ, ◌<◌, ◌==◌, Bool, true, false, List, [], ◌∷◌, length, nat_lt, Ok, refl, ap, sym, ◌∙◌, subst, arith}
-use Rattle.std.proofs.lemmas.Bool.{cond-true, eq-eqb, le-ltb}
+-- Undoing events one by one, and what a rollback leaves, as far as it has gone.
+use Rattle.std.proofs.Common.{◌≡◌, ℕ, suc, ◌<◌, ◌≤◌, ◌==◌, Bool, true, false, not, List, [], ◌∷◌, ◌++◌, Some, length, map, slice_get, refl, ap, sym, ◌∙◌, subst, inl, inr, arith}
+use Rattle.std.proofs.lemmas.Bool.{cases_Bool, cond-true, eq-eqb, lt-ltb}
+use Rattle.std.specs.List.{AllByRecursion}
 use Rattle.tw_core.specs.Machine.{Core}
-use Rattle.tw_core.specs.Steps.{after_undoing, after_undoing_while, undo}
-use Rattle.tw_engine.specs.Process.{IsOneUndone, Logical, has_newest, is_from, process_core}
-use Rattle.tw_sim.specs.Simulation.{Simulation}
+use Rattle.tw_core.specs.Steps.{IsRolledBack, after_undoing, after_undoing_while, antimessage}
+use Rattle.tw_engine.specs.Past.{Handled, IsUndone}
+use Rattle.tw_engine.specs.Process.{IsOneUndone, IsSameProcess, Logical, begins, has_newest, history, joined, process_core, rolls, undone_at}
+use Rattle.tw_engine.specs.declared.reach.Reach.{Reach}
+use Rattle.tw_engine.specs.declared.reach.Reach.TheVariants.{From, Later, Since}
+use Rattle.tw_engine.proofs.Machine.{same_put}
+use Rattle.tw_sim.proofs.Rising.{not_back}
+use Rattle.tw_sim.specs.Seq.{insert}
+use Rattle.tw_sim.specs.Simulation.{Simulation, IsLawful, state}
+use Rattle.tw_sim.specs.declared.machine.Signed.{Signed}
+
+-- where the newest event of a list passes a test, there is one
+pub some_goes : {E : Type 0} (test : E → Bool) (xs : List E) → has_newest test xs ≡ true → 0 < length xs
+some_goes test [] h = absurd (cc)
+some_goes test (x ∷ xs) h = omega arith
 
 module _ {S E : Type 0} (m : Simulation S E) where
-  undo_step : (C : Core E) (r : ℕ) (e : E) (older : List E) → nat_lt (m.time e) (C.done r) ≡ false → nat_lt (m.time e) C.bound ≡ false → undo m C r (e ∷ older) ≡ Ok (after_undoing m C r e older)
-  undo_step C r e older a b = rw (a, b) refl
+  -- ---- one event
 
-  module _ {M : Type 0} (stop : ℕ) (p q : Logical M E) (number : q.number ≡ p.number) where
-    one_undone_at : (h : List E) → 0 < length h → undo m (process_core stop p) p.number h ≡ Ok (process_core stop q) → IsOneUndone m p.number h q.history (process_core stop p) (process_core stop q)
-    one_undone_at [] l u = absurd (omega arith)
-    one_undone_at (e ∷ older) l u =
-        let done = undo_step (process_core stop p) p.number e older (le-ltb (m.time e) 0 (omega arith)) (le-ltb (m.time e) 0 (omega arith)) in
-        let same : after_undoing m (process_core stop p) p.number e older ≡ process_core stop q = cc in
-        let old = cond-true (p.number == p.number) older ((process_core stop p).history p.number) (eq-eqb p.number p.number refl) in
-        let new = cond-true (p.number == q.number) q.history [] (eq-eqb p.number q.number (sym number)) in
-        let left : older ≡ q.history = sym old ∙ (ap (λ D. D.history p.number) same ∙ new) in
-        record {
-          newest = e;
-          was = ap (λ x. e ∷ x) left;
-          undone = sym same ∙ ap (after_undoing m (process_core stop p) p.number e) left;
-        }
+  -- the machine of a process that has undone an event
+  pub core_undone : {M : Type 0} (stop : ℕ) (p : Logical M E) (e : E) (older : List E)
+      → process_core stop (undone_at m p e older) ≡ after_undoing m (process_core stop p) p.number e (older ++ p.past)
+  core_undone stop p e older = ap (λ h. record (process_core stop (undone_at m p e older)) { history = h }) (sym (same_put [] p.number (history p) (older ++ p.past)))
 
-    -- the machine's step undoes the newest event
-    pub one_undone : 0 < length p.history → undo m (process_core stop p) p.number p.history ≡ Ok (process_core stop q) → IsOneUndone m p.number p.history q.history (process_core stop p) (process_core stop q)
-    one_undone = one_undone_at p.history
+  -- a process whose parts have undone an event
+  pub undone_as_told : {M : Type 0} (p q : Handled M E) (pending left kept : List E) (flight reserved out : List (Signed E)) (bound : ℕ) (event : E) (before sent : List E)
+      → IsUndone m p.number p.past p.ahead q.ahead before sent → q ≡ record p { ahead = q.ahead } → Some event ≡ slice_get p.ahead 0 → left ≡ insert m event pending → before ≡ []
+      → out ≡ reserved ++ map antimessage sent → reserved ≡ flight → IsOneUndone m (joined p pending kept flight bound) (joined q left kept out bound)
+  undone_as_told p q pending left kept flight reserved out bound event before sent u same first put nothing away stay =
+      let at : slice_get p.ahead 0 ≡ Some u.newest = ap (λ l. slice_get l 0) u.was in
+      let is : event ≡ u.newest = cc in
+      let sends = m.sends (state m p.number (q.ahead ++ p.past)) u.newest in
+      let all : sent ≡ sends = u.sent ∙ ap (λ xs. xs ++ sends) nothing in
+      let waits : left ≡ insert m u.newest pending = put ∙ ap (λ e. insert m e pending) is in
+      let flies : out ≡ flight ++ map antimessage sends = away ∙ (ap (λ xs. xs ++ map antimessage sent) stay ∙ ap (λ xs. flight ++ map antimessage xs) all) in (
+        u.newest,
+        q.ahead,
+        u.was,
+        λ i. record {
+          model = (same i).model;
+          number = (same i).number;
+          ahead = (same i).ahead;
+          past = (same i).past;
+          pending = waits i;
+          kept = kept;
+          flight = flies i;
+          done = (same i).done;
+          bound = bound;
+        },
+      )
 
-  module _ (test : E → Bool) (r : ℕ) where
-    undone_next : (C D : Core E) (h left : List E) → IsOneUndone m r h left C D → has_newest test h ≡ true → after_undoing_while m test r left D ≡ after_undoing_while m test r h C
-    undone_next C D h left u t =
-        let passes : test u.newest ≡ true = subst (λ x. has_newest test x ≡ true) u.was t in
-        ap (after_undoing_while m test r left) u.undone
-        ∙ sym (ap (λ x. after_undoing_while m test r x C) u.was ∙ cond-true (test u.newest) (after_undoing_while m test r left (after_undoing m C r u.newest left)) C passes)
+  -- fewer events are left
+  pub fewer : {M : Type 0} (p q : Logical M E) → IsOneUndone m p q → length q.ahead < length p.ahead
+  fewer p q h = let a = ap length h.2 in let b = ap (λ x. length x.ahead) h.3 in omega arith
 
-  -- a history with an event is shorter without it
-  pub shorter : (C D : Core E) (r : ℕ) (h left : List E) → IsOneUndone m r h left C D → length left < length h
-  shorter C D r h left u = let k = ap length u.was in omega arith
+  -- ---- as many as a rollback reaches
 
-module _ {S E M : Type 0} (sim : M → Simulation S E) (time stop : ℕ) (o p q : Logical M E) (model : p.model ≡ o.model) (number : p.number ≡ o.number) where
-  -- one more is undone
-  pub loop_step : IsOneUndone (sim p.model) p.number p.history q.history (process_core stop p) (process_core stop q) → has_newest (is_from (sim p.model) time) p.history ≡ true
-      → after_undoing_while (sim o.model) (is_from (sim o.model) time) o.number q.history (process_core stop q) ≡ after_undoing_while (sim o.model) (is_from (sim o.model) time) o.number p.history (process_core stop p)
-  loop_step u t =
-      undone_next (sim o.model) (is_from (sim o.model) time) o.number (process_core stop p) (process_core stop q) p.history q.history
-      (subst (λ r. IsOneUndone (sim o.model) r p.history q.history (process_core stop p) (process_core stop q)) number
-      (subst (λ x. IsOneUndone (sim x) p.number p.history q.history (process_core stop p) (process_core stop q)) model u))
-      (subst (λ x. has_newest (is_from (sim x) time) p.history ≡ true) model t)
+  module _ {M : Type 0} (reach : Reach E) where
+    -- where a process has been rolled back as far as this
+    pub record IsRolling (s t : Logical M E) : Type 0 where
+      pub share : IsSameProcess s t
+      pub kept : t.kept ≡ s.kept
+      -- what was undone
+      pub undone : (stop : ℕ) (x : E) → m.dst x ≡ s.number → ((e : E) → rolls m reach e ≡ true → m.before e x ≡ false) → IsRolledBack m x (process_core stop s) (process_core stop t)
+      -- what is still to be undone leads to the same
+      pub rest : (stop : ℕ) → after_undoing_while m (rolls m reach) s.number (history t) (process_core stop t) ≡ after_undoing_while m (rolls m reach) s.number (history s) (process_core stop s)
+
+    pub rolling_none : (s : Logical M E) → IsRolling s s
+    rolling_none s = record {
+      share = record { model = refl; number = refl; past = refl; done = refl; bound = refl };
+      kept = refl;
+      undone = λ stop x home late. (0, refl);
+      rest = λ stop. refl;
+    }
+
+    pub rolling_same : (s t u : Logical M E) → IsRolling s t → u ≡ t → IsRolling s u
+    rolling_same s t u far is = subst (IsRolling s) (sym is) far
+
+    pub rolling_more : (s t u : Logical M E) → IsRolling s t → has_newest (rolls m reach) t.ahead ≡ true → IsOneUndone m t u → IsRolling s u
+    rolling_more s t u far must h =
+        let e = h.0 in
+        let older = h.1 in
+        let left = older ++ t.past in
+        let newest : history t ≡ e ∷ left = ap (λ a. a ++ t.past) h.2 in
+        let goes : rolls m reach e ≡ true = ap (has_newest (rolls m reach)) (sym h.2) ∙ must in
+        subst (IsRolling s) (sym h.3) (record {
+          share = record { model = far.share.model; number = far.share.number; past = far.share.past; done = far.share.done; bound = far.share.bound };
+          kept = far.kept;
+          undone = λ stop x home late. (
+              let C = process_core stop t in
+              let before = far.undone stop x home late in
+              let at : m.dst x ≡ t.number = home ∙ sym far.share.number in
+              let here : C.history (m.dst x) ≡ e ∷ left = cond-true (m.dst x == t.number) (history t) [] (eq-eqb (m.dst x) t.number at) ∙ newest in
+              let one : process_core stop (undone_at m t e older) ≡ after_undoing m C (m.dst x) e left = core_undone stop t e older ∙ ap (λ r. after_undoing m C r e left) (sym at) in
+              (suc before.0, (C, before.1, (e, left, here, late e goes, one))));
+          rest = λ stop.
+              ap (after_undoing_while m (rolls m reach) s.number left) (core_undone stop t e older ∙ ap (λ r. after_undoing m (process_core stop t) r e left) far.share.number)
+              ∙ (sym (cond-true (rolls m reach e) (after_undoing_while m (rolls m reach) s.number left (after_undoing m (process_core stop t) s.number e left)) (process_core stop t) goes)
+              ∙ (ap (λ h. after_undoing_while m (rolls m reach) s.number h (process_core stop t)) (sym newest) ∙ far.rest stop));
+        })
+
+  module _ (law : IsLawful m) where
+    -- an event of an earlier time is before it
+    by_time : (p e : E) → m.time p < m.time e → m.before p e ≡ true
+    by_time p e early =
+        elim (cases_Bool (m.before p e)) [
+          | inl before ↦ before
+          | inr not_before ↦ elim (cases_Bool (m.before e p)) [
+            | inl back ↦ let late = law.timely e p back in absurd (omega arith)
+            | inr neither ↦ let same = ap m.time (law.total p e not_before neither) in absurd (omega arith)
+          ]
+        ]
+
+    -- and stays handled
+    stays_handled : (reach : Reach E) (p : E) → m.time p < begins m reach → rolls m reach p ≡ false
+    stays_handled (Later e) p early = not_back m law p e (by_time p e early)
+    stays_handled (From e) p early = ap not (by_time p e early)
+    stays_handled (Since time) p early = ap not (lt-ltb (m.time p) time early)
+
+    -- nothing more is to be undone: committed events are before what is undone
+    done_here : (reach : Reach E) (ahead past : List E) (r : ℕ) (C : Core E) → has_newest (rolls m reach) ahead ≡ false → AllByRecursion (λ p. m.time p < begins m reach) past
+        → after_undoing_while m (rolls m reach) r (ahead ++ past) C ≡ C
+    done_here reach (x ∷ older) past r C stops early = rw stops refl
+    done_here reach [] [] r C stops early = refl
+    done_here reach [] (p ∷ past) r C stops early = rw (stays_handled reach p early.0) refl
+
+    earlier : (past : List E) (bound later : ℕ) → bound ≤ later → AllByRecursion (λ p. m.time p < bound) past → AllByRecursion (λ p. m.time p < later) past
+    earlier [] bound later le all = tt
+    earlier (p ∷ past) bound later le all = ((let k = all.0 in omega arith), earlier past bound later le all.1)
+
+    -- the rollback is whole
+    pub rolling_done : {M : Type 0} (reach : Reach E) (s t : Logical M E) → IsRolling reach s t → AllByRecursion (λ p. m.time p < s.bound) s.past → s.bound ≤ begins m reach
+        → has_newest (rolls m reach) t.ahead ≡ false
+        → (stop : ℕ) → process_core stop t ≡ after_undoing_while m (rolls m reach) s.number (history s) (process_core stop s)
+    rolling_done reach s t far early late stops stop =
+        let all : AllByRecursion (λ p. m.time p < begins m reach) t.past = subst (AllByRecursion (λ p. m.time p < begins m reach)) (sym far.share.past) (earlier s.past s.bound (begins m reach) late early) in
+        sym (done_here reach t.ahead t.past s.number (process_core stop t) stops all) ∙ far.rest stop

@@ -1,15 +1,20 @@
-//! The logical process of Time Warp, for any model: it runs ahead, and is rolled back exactly (after Jefferson, Virtual
-//! Time, 1985).
+//! The logical process of Time Warp, for any model: it runs ahead, receives messages and antimessages, is rolled back
+//! exactly, and commits (after Jefferson, Virtual Time, 1985).
 //!
-//! A `LogicalProcess` has a model's state, the events that wait for it, those that it has handled with their notes, and
-//! the messages that it has sent. Its calls are steps of the machine of `tw_core`: what each leaves, and when it is
-//! refused, is said by that machine's own `handle`, `undo` and `after_undoing_while`. Proved once, for every model.
+//! A `LogicalProcess` has a model's state, the events that wait for it, those that it has handled with their notes, the
+//! antimessages that came before their message, and the messages that it has sent. Its calls are steps of the machine of
+//! `tw_core`: what each leaves, and when it is refused, is said by that machine's own `handle`, `undo`,
+//! `after_undoing_while`, `after_arrival` and `with_commit`. Proved once, for every model.
 #![tactic(auto)]
 
 mod logical;
 mod past;
+mod reach;
+mod receive;
+mod rejection;
 mod steps;
 mod stopped;
 
 pub use logical::LogicalProcess;
+pub use rejection::{Rejection, Unreceived};
 pub use stopped::Stopped;

@@ -1,47 +1,58 @@
 //! A logical process.
 
-ghost use Rattle.std.specs.Prelude.{ℕ, ◌≡◌, ◌<◌, ◌≤◌, ◌↔◌, ◌∷◌, [], true, length, IfOk, IsErrOf, OnErr, OnOk, Ok, Err};
-ghost use Rattle.tw_core.specs.Steps.{after_undoing_while, first_pending, handle, undo};
+ghost use Rattle.std.specs.Prelude.{ℕ, ◌≡◌, ◌<◌, ◌≤◌, ◌↔◌, ◌∷◌, [], false, true, length, max, nat_lt, IfOk, IsErrOf, OnErr, OnOk, Ok, Err};
+ghost use Rattle.std.specs.Bool.{OnFalse};
+ghost use Rattle.std.specs.List.{AllByRecursion};
+ghost use Rattle.std.specs.Result.{result_and};
+ghost use Rattle.tw_core.specs.Steps.{IsRolledBack, after_undoing_while, first_pending, handle, least_time, take_out, undo, with_commit};
 ghost use Rattle.tw_core.specs.declared.refusal.Refusal.{Refusal as AnyRefusal};
-ghost use Rattle.tw_engine.specs.Process.{AreOwn, IsOneUndone, has_newest, is_from, process_core};
+ghost use Rattle.tw_engine.specs.Past.{not_before};
+ghost use Rattle.tw_engine.specs.Process.{AreOwn, IsOneUndone, IsSameProcess, begins, committed_at, has_newest, history, is_from, process_core, rolls};
 ghost use Rattle.tw_engine.specs.declared.stopped.Stopped.TheVariants as stopped;
 ghost use Rattle.tw_process.specs.Behaviour.{simulation_of};
-ghost use Rattle.tw_sim.specs.Seq.{insert_all};
-ghost use Rattle.tw_sim.specs.Simulation.{only, state};
+ghost use Rattle.tw_sim.specs.Seq.{insert, insert_all};
+ghost use Rattle.tw_sim.specs.Simulation.{IsFalling, IsLawful, below, only, state, times};
 
 use crate::past::Past;
+use crate::reach::Reach;
 use crate::steps::{handle_first, undo_newest};
 use crate::stopped::Stopped;
 use std::alloc::{AllocError, Global};
 use std::marker::Model;
+use std::mem;
+use tw_core::Refusal;
 use tw_pending::Pending;
 use tw_process::laws::model_is_lawful;
 use tw_process::{ProcessModel, Timed};
 use tw_sim::Signed;
 
-/// A logical process of a model: its state, the events that wait for it, those that it has handled, which it can undo,
-/// and the messages that it has sent.
+/// A logical process of a model: its state, the events that wait for it, those that it has handled, the antimessages
+/// that came before their message, and the messages that it has sent.
 ///
-/// It takes back at once what undone events had sent, commits nothing, and receives no message.
+/// It takes back at once what undone events had sent (aggressive cancellation). It may handle 2^64 events that it has
+/// not committed, as far as there is memory.
 #[derive(Drop)]
 pub struct LogicalProcess<'a, M: ProcessModel> {
     past: Past<'a, M>,
     pending: Pending<M::Event>,
+    kept: Pending<M::Event>,
     flight: Vec<Signed<M::Event>>,
     sends: Vec<M::Event>,
+    bound: u64,
 }
 
 impl<'a, M: ProcessModel> Model for LogicalProcess<'a, M> {
     ghost use Rattle.std.specs.Prelude.{◌≡◌, ◌≤◌, vec_capacity, vec_len};
     ghost use Rattle.tw_process.specs.Behaviour.{simulation_of};
+    ghost use Rattle.tw_engine.specs.Past.{not_before};
     ghost use Rattle.tw_engine.specs.Process.{AreOwn, Logical, joined};
 
     ghost Value = { Logical M M.Event };
 
-    ghost view = { λ a. joined a.past a.pending a.flight.items };
+    ghost view = { λ a. joined a.past a.pending a.kept a.flight.items a.bound };
 
     ghost invariant = { λ a. AreOwn (simulation_of M.Event.parts M.Event.cmp (M.behaviour a.past.model)) a.past.number a.pending
-        × (vec_len a.sends ≡ 0) × ((M.behaviour a.past.model).most ≤ vec_capacity a.sends) };
+        × (vec_len a.sends ≡ 0) × ((M.behaviour a.past.model).most ≤ vec_capacity a.sends) × (a.past.done ≤ a.bound) };
 }
 
 impl<'a, M: ProcessModel> LogicalProcess<'a, M> {
@@ -53,7 +64,7 @@ impl<'a, M: ProcessModel> LogicalProcess<'a, M> {
     ) -> Result<LogicalProcess<'a, M>, AllocError>
         requires { number < (M.behaviour model.now).processes }
         ensures { let m = simulation_of M.Event.parts M.Event.cmp (M.behaviour model.now) in
-            IfOk result (λ p. p ≡ record { model = model.now; number = number; history = []; pending = insert_all m (only m number m.opening) []; flight = [] }) }
+            IfOk result (λ p. p ≡ record { model = model.now; number = number; ahead = []; past = []; pending = insert_all m (only m number m.opening) []; kept = []; flight = []; done = 0; bound = 0 }) }
     {
         let past = Past::new(alloc, model, number)?;
         let pending = pending_of(alloc, model, number)?;
@@ -61,23 +72,79 @@ impl<'a, M: ProcessModel> LogicalProcess<'a, M> {
         Ok(LogicalProcess {
             past,
             pending,
+            kept: Pending::new(alloc),
             flight: Vec::new(alloc),
             sends,
+            bound: 0,
         })
     }
 
     /// Its state.
     pub fn state(&self) -> &M::State
-        ensures { M.known result.now ≡ state (simulation_of M.Event.parts M.Event.cmp (M.behaviour self.now.model)) self.now.number self.now.history }
+        ensures { M.known result.now ≡ state (simulation_of M.Event.parts M.Event.cmp (M.behaviour self.now.model)) self.now.number (history self.now) }
     {
         self.past.state()
     }
 
-    /// The messages and antimessages that it has sent, in the order sent.
+    /// The messages and antimessages that it has sent, in the order sent, and that were not taken out.
     pub fn flight(&self) -> &[Signed<M::Event>]
         ensures { result.now ≡ self.now.flight }
     {
         &self.flight
+    }
+
+    /// Takes out the messages and antimessages that it has sent, in the order sent.
+    pub fn take_out(&mut self) -> Vec<Signed<M::Event>>
+        ensures value { result.items ≡ self.old.flight }
+        ensures rest { self.new ≡ record self.old { flight = [] } }
+    {
+        let alloc = *self.flight.allocator();
+        mem::replace(&mut self.flight, Vec::new(alloc))
+    }
+
+    /// The bound, in ticks: nothing that comes is before it, and what was handled before it stays.
+    pub fn bound(&self) -> u64
+        ensures { result ≡ self.now.bound }
+    {
+        self.bound
+    }
+
+    /// The bound becomes the greater of itself and this one, a time in ticks (global virtual time).
+    pub fn raise_bound(&mut self, bound: u64)
+        ensures { self.new ≡ record self.old { bound = max self.old.bound bound } }
+    {
+        self.bound = self.bound.max(bound);
+    }
+
+    /// Its events below the bound, the oldest ones, become committed: they can be undone no more, and their notes are let
+    /// go (fossil collection).
+    ///
+    /// It is the machine's own step, whatever the stop. Where its history is in order, those that can still be undone are
+    /// then all that are not below the bound. Where there is no memory it is as it was.
+    pub fn commit(&mut self) -> Result<(), AllocError>
+        ensures ok { let m = simulation_of M.Event.parts M.Event.cmp (M.behaviour self.old.model) in
+            (stop : ℕ) → OnOk result (process_core stop self.new ≡ with_commit m (process_core stop self.old) self.old.number) }
+        ensures events { let m = simulation_of M.Event.parts M.Event.cmp (M.behaviour self.old.model) in OnOk result (self.new ≡ committed_at m self.old) }
+        ensures past { let m = simulation_of M.Event.parts M.Event.cmp (M.behaviour self.old.model) in
+            OnOk result (IsFalling m (history self.old) → self.new.past ≡ below m self.old.bound (history self.old)) }
+        ensures ahead { let m = simulation_of M.Event.parts M.Event.cmp (M.behaviour self.old.model) in
+            OnOk result (IsFalling m (history self.old) → self.new.ahead ≡ not_before m self.old.bound (history self.old)) }
+        ensures err { OnErr result (self.new ≡ self.old) }
+    {
+        self.keeps_laws();
+        self.past.commit(self.bound)?;
+        Ok(())
+    }
+
+    /// The least of a time and of the times, in ticks, of what waits for it and of the antimessages that came before their
+    /// message. Beginning with the stop, all processes and what is on its way between them give the next bound.
+    pub fn least_time(&self, time: u64) -> u64
+        ensures { let m = simulation_of M.Event.parts M.Event.cmp (M.behaviour self.now.model) in
+            result ≡ least_time m self.now.pending (least_time m self.now.kept time) }
+    {
+        let model = self.past.model();
+        let kept = least_of(model, &self.kept, time);
+        least_of(model, &self.pending, kept)
     }
 
     /// Handles its first pending event, where that is before the stop, a time in ticks, at most the model's latest.
@@ -91,8 +158,7 @@ impl<'a, M: ProcessModel> LogicalProcess<'a, M> {
             (f : AnyRefusal) → IsErrOf result (stopped.Refused f)
             ↔ (handle m (process_core stop self.old) self.old.number (first_pending m (process_core stop self.old) self.old.number) ≡ Err f) }
         ensures err { OnErr result (self.new ≡ self.old) }
-        ensures model { self.new.model ≡ self.old.model }
-        ensures number { self.new.number ≡ self.old.number }
+        ensures same { IsSameProcess self.old self.new }
     {
         handle_first(
             &mut self.past,
@@ -106,16 +172,95 @@ impl<'a, M: ProcessModel> LogicalProcess<'a, M> {
     /// Undoes the event that it handled last: what it knows is what it knew before, the event waits once more, and for
     /// each message that it had sent an antimessage goes out.
     ///
-    /// It is the machine's own step, whatever the stop. Where there is no memory it is as it was.
+    /// It is the machine's own step, whatever the stop, and refused for the machine's own reasons: as `Nothing` where it
+    /// has handled nothing, and as `Committed` where the event lies before the bound. Where there is no memory it is as it
+    /// was.
     pub fn undo_last(&mut self) -> Result<(), Stopped>
         ensures ok { let m = simulation_of M.Event.parts M.Event.cmp (M.behaviour self.old.model) in
-            (stop : ℕ) → OnOk result (undo m (process_core stop self.old) self.old.number self.old.history ≡ Ok (process_core stop self.new)) }
+            (stop : ℕ) → OnOk result (undo m (process_core stop self.old) self.old.number (history self.old) ≡ Ok (process_core stop self.new)) }
         ensures refused { let m = simulation_of M.Event.parts M.Event.cmp (M.behaviour self.old.model) in
             (stop : ℕ) (f : AnyRefusal) → IsErrOf result (stopped.Refused f)
-            ↔ (undo m (process_core stop self.old) self.old.number self.old.history ≡ Err f) }
+            ↔ (undo m (process_core stop self.old) self.old.number (history self.old) ≡ Err f) }
         ensures err { OnErr result (self.new ≡ self.old) }
-        ensures model { self.new.model ≡ self.old.model }
-        ensures number { self.new.number ≡ self.old.number }
+        ensures same { IsSameProcess self.old self.new }
+    {
+        if let Err(refusal) = self.may_undo() {
+            return Err(Stopped::Refused(refusal));
+        }
+        self.step_back()?;
+        Ok(())
+    }
+
+    /// Undoes all events at this time, in ticks, or at the bound where that is later, and later, the last one first.
+    ///
+    /// Where there is no memory, some of them are undone, and undoing what is left leads to the same.
+    pub fn undo_to(&mut self, time: u64) -> Result<(), AllocError>
+        ensures ok { let m = simulation_of M.Event.parts M.Event.cmp (M.behaviour self.old.model) in
+            (stop : ℕ) → OnOk result (process_core stop self.new ≡ after_undoing_while m (is_from m (max time self.old.bound)) self.old.number (history self.old) (process_core stop self.old)) }
+        ensures err { let m = simulation_of M.Event.parts M.Event.cmp (M.behaviour self.old.model) in
+            (stop : ℕ) → OnErr result (after_undoing_while m (is_from m (max time self.old.bound)) self.old.number (history self.new) (process_core stop self.new)
+            ≡ after_undoing_while m (is_from m (max time self.old.bound)) self.old.number (history self.old) (process_core stop self.old)) }
+        ensures same { IsSameProcess self.old self.new }
+    {
+        self.undo_all(Reach::Since(time.max(self.bound)))
+    }
+
+    /// Undoes its newest events as far as this reaches.
+    pub(crate) fn undo_all(&mut self, reach: Reach<M::Event>) -> Result<(), AllocError>
+        requires late { self.old.bound ≤ begins (simulation_of M.Event.parts M.Event.cmp (M.behaviour self.old.model)) reach }
+        ensures ok { let m = simulation_of M.Event.parts M.Event.cmp (M.behaviour self.old.model) in
+            (stop : ℕ) → OnOk result (process_core stop self.new ≡ after_undoing_while m (rolls m reach) self.old.number (history self.old) (process_core stop self.old)) }
+        ensures rest { let m = simulation_of M.Event.parts M.Event.cmp (M.behaviour self.old.model) in
+            (stop : ℕ) → after_undoing_while m (rolls m reach) self.old.number (history self.new) (process_core stop self.new)
+            ≡ after_undoing_while m (rolls m reach) self.old.number (history self.old) (process_core stop self.old) }
+        ensures undone { let m = simulation_of M.Event.parts M.Event.cmp (M.behaviour self.old.model) in
+            (stop : ℕ) (x : M.Event) → M.Event.parts.dst x ≡ self.old.number → ((e : M.Event) → rolls m reach e ≡ true → m.before e x ≡ false)
+            → IsRolledBack m x (process_core stop self.old) (process_core stop self.new) }
+        ensures kept { self.new.kept ≡ self.old.kept }
+        ensures same { IsSameProcess self.old self.new }
+    {
+        self.keeps_laws();
+        while self.must_undo(reach) {
+            self.step_back()?;
+        }
+        Ok(())
+    }
+
+    /// Whether the newest event that it can undo is to be undone.
+    fn must_undo(&self, reach: Reach<M::Event>) -> bool
+        ensures { result ≡ has_newest (rolls (simulation_of M.Event.parts M.Event.cmp (M.behaviour self.now.model)) reach) self.now.ahead }
+    {
+        let Some(newest) = self.past.newest_ahead() else {
+            return false;
+        };
+        match reach {
+            Reach::Later(event) => event.cmp(&newest).is_lt(),
+            Reach::From(event) => !newest.cmp(&event).is_lt(),
+            Reach::Since(time) => newest.time() >= time,
+        }
+    }
+
+    /// Whether it has an event to undo.
+    fn may_undo(&self) -> Result<(), Refusal>
+        ensures told { let m = simulation_of M.Event.parts M.Event.cmp (M.behaviour self.now.model) in
+            (stop : ℕ) → result ≡ result_and (undo m (process_core stop self.now) self.now.number (history self.now)) (Ok tt) }
+        ensures some { OnOk result (0 < length self.now.ahead) }
+    {
+        self.keeps_laws();
+        let Some(event) = self.past.newest() else {
+            return Err(Refusal::Nothing);
+        };
+        if event.time() < self.bound {
+            return Err(Refusal::Committed);
+        }
+        Ok(())
+    }
+
+    /// Undoes the newest event that it can undo.
+    fn step_back(&mut self) -> Result<(), AllocError>
+        requires { 0 < length self.old.ahead }
+        ensures ok { OnOk result (IsOneUndone (simulation_of M.Event.parts M.Event.cmp (M.behaviour self.old.model)) self.old self.new) }
+        ensures err { OnErr result (self.new ≡ self.old) }
     {
         undo_newest(
             &mut self.past,
@@ -125,47 +270,87 @@ impl<'a, M: ProcessModel> LogicalProcess<'a, M> {
         )
     }
 
-    /// Undoes all events at this time, in ticks, and later, the last one first.
-    ///
-    /// Where there is no memory, some of them are undone, and undoing what is left leads to the same.
-    pub fn undo_to(&mut self, time: u64) -> Result<(), AllocError>
-        ensures ok { let m = simulation_of M.Event.parts M.Event.cmp (M.behaviour self.old.model) in
-            (stop : ℕ) → OnOk result (process_core stop self.new ≡ after_undoing_while m (is_from m time) self.old.number self.old.history (process_core stop self.old)) }
-        ensures err { let m = simulation_of M.Event.parts M.Event.cmp (M.behaviour self.old.model) in
-            (stop : ℕ) → OnErr result (after_undoing_while m (is_from m time) self.old.number self.new.history (process_core stop self.new)
-            ≡ after_undoing_while m (is_from m time) self.old.number self.old.history (process_core stop self.old)) }
-        ensures model { self.new.model ≡ self.old.model }
-        ensures number { self.new.number ≡ self.old.number }
+    /// Whether it has handled this event, and can undo it.
+    pub(crate) fn has_handled(&self, event: &M::Event) -> bool
+        ensures { result ≡ nat_lt 0 (times (simulation_of M.Event.parts M.Event.cmp (M.behaviour self.now.model)) event.now self.now.ahead) }
     {
-        while self.has_from(time) {
-            self.undo_one()?;
-        }
+        self.past.has_ahead(event)
+    }
+
+    /// Tells what holds of every process. It does nothing.
+    pub(crate) fn keeps_laws(&self)
+        ensures lawful { IsLawful (simulation_of M.Event.parts M.Event.cmp (M.behaviour self.now.model)) }
+        ensures early { AllByRecursion (λ e. M.Event.parts.time e < self.now.bound) self.now.past }
+        ensures done { self.now.done ≤ self.now.bound }
+    {
+        self.past.keeps_laws();
+    }
+
+    /// Its model.
+    pub(crate) fn model(&self) -> &'a M
+        ensures { result.now ≡ self.now.model }
+    {
+        self.past.model()
+    }
+
+    /// Its number.
+    pub(crate) fn number(&self) -> u32
+        ensures { result ≡ self.now.number }
+    {
+        self.past.number()
+    }
+
+    /// An event becomes pending.
+    pub(crate) fn add_pending(&mut self, event: M::Event) -> Result<(), AllocError>
+        requires own { M.Event.parts.dst event ≡ self.old.number }
+        requires suit { (M.behaviour self.old.model).suits event ≡ true }
+        ensures ok { let m = simulation_of M.Event.parts M.Event.cmp (M.behaviour self.old.model) in
+            OnOk result (self.new ≡ record self.old { pending = insert m event self.old.pending }) }
+        ensures err { OnErr result (self.new ≡ self.old) }
+    {
+        self.pending.insert(event)?;
         Ok(())
     }
 
-    /// Whether the event that it handled last is at this time, in ticks, or later.
-    fn has_from(&self, time: u64) -> bool
-        ensures { result ≡ has_newest (is_from (simulation_of M.Event.parts M.Event.cmp (M.behaviour self.now.model)) time) self.now.history }
+    /// An event is pending once less, where it is pending. Tells whether it was.
+    pub(crate) fn take_pending(&mut self, event: &M::Event) -> bool
+        ensures value { result ≡ nat_lt 0 (times (simulation_of M.Event.parts M.Event.cmp (M.behaviour self.old.model)) event.now self.old.pending) }
+        ensures without { let m = simulation_of M.Event.parts M.Event.cmp (M.behaviour self.old.model) in
+            self.new ≡ record self.old { pending = take_out m event.now self.old.pending } }
+        ensures none { OnFalse result (self.new ≡ self.old) }
     {
-        match self.past.newest() {
-            Some(event) => event.time() >= time,
-            None => false,
-        }
+        self.pending.remove(event)
     }
 
-    /// Undoes the event that it handled last, where it has handled one.
-    fn undo_one(&mut self) -> Result<(), AllocError>
-        requires { 0 < length self.old.history }
+    /// An antimessage is kept.
+    pub(crate) fn add_kept(&mut self, event: M::Event) -> Result<(), AllocError>
         ensures ok { let m = simulation_of M.Event.parts M.Event.cmp (M.behaviour self.old.model) in
-            (stop : ℕ) → OnOk result (IsOneUndone m self.old.number self.old.history self.new.history (process_core stop self.old) (process_core stop self.new)) }
+            OnOk result (self.new ≡ record self.old { kept = insert m event self.old.kept }) }
         ensures err { OnErr result (self.new ≡ self.old) }
-        ensures model { self.new.model ≡ self.old.model }
-        ensures number { self.new.number ≡ self.old.number }
     {
-        match self.undo_last() {
-            Ok(()) => Ok(()),
-            Err(_) => Err(AllocError),
-        }
+        self.kept.insert(event)?;
+        Ok(())
+    }
+
+    /// An antimessage is kept once less, where it is kept. Tells whether it was.
+    pub(crate) fn take_kept(&mut self, event: &M::Event) -> bool
+        ensures value { result ≡ nat_lt 0 (times (simulation_of M.Event.parts M.Event.cmp (M.behaviour self.old.model)) event.now self.old.kept) }
+        ensures without { let m = simulation_of M.Event.parts M.Event.cmp (M.behaviour self.old.model) in
+            self.new ≡ record self.old { kept = take_out m event.now self.old.kept } }
+        ensures none { OnFalse result (self.new ≡ self.old) }
+    {
+        self.kept.remove(event)
+    }
+}
+
+/// The least of a time, in ticks, and of the times of some events.
+fn least_of<M: ProcessModel>(model: &M, events: &Pending<M::Event>, time: u64) -> u64
+    ensures { result ≡ least_time (simulation_of M.Event.parts M.Event.cmp (M.behaviour model.now)) events.now time }
+{
+    model_is_lawful(model);
+    match events.least() {
+        Some(event) => event.time().min(time),
+        None => time,
     }
 }
 

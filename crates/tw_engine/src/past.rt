@@ -1,16 +1,18 @@
-//! A process with what it has handled: each event can be taken back, the last one first.
+//! A process with what it has handled: each event that is not committed can be taken back, the last one first.
 
-ghost use Rattle.std.specs.Prelude.{List, ◌^◌, ◌≡◌, ◌+◌, ◌<◌, ◌≤◌, ◌↔◌, ◌++◌, ◌∷◌, [], true, IfOk, IfSome, IsErrOf, OnErr, OnOk, length, slice_get, option_map, reverse, vec_capacity, vec_len};
+ghost use Rattle.std.specs.Prelude.{◌^◌, ◌≡◌, ◌+◌, ◌<◌, ◌≤◌, ◌↔◌, ◌++◌, ◌∷◌, [], nat_lt, true, IfOk, IfSome, IsErrOf, OnErr, OnOk, drop, length, map, slice_get, reverse, vec_capacity, vec_len};
+ghost use Rattle.std.specs.List.{AllByRecursion, list_any, prefix_len};
 ghost use Rattle.tw_process.specs.Behaviour.{simulation_of};
 ghost use Rattle.tw_process.specs.declared.refused.Refused.TheVariants.{CounterFull};
-ghost use Rattle.tw_engine.specs.Past.{IsPast, IsUndone, events_of};
+ghost use Rattle.tw_engine.specs.Past.{IsPast, IsUndone, committed_to, events_of, not_before};
 ghost use Rattle.tw_core.specs.Steps.{is_newest};
-ghost use Rattle.tw_sim.specs.Simulation.{IsLawful, state};
+ghost use Rattle.tw_pending.specs.Order.{is_same};
+ghost use Rattle.tw_sim.specs.Simulation.{IsFalling, IsLawful, below, state, times};
 
 use std::alloc::{AllocError, Global};
 use std::marker::Model;
 use tw_process::laws::model_is_lawful;
-use tw_process::{ProcessModel, Refused};
+use tw_process::{ProcessModel, Refused, Timed};
 
 /// An event that was handled, and its note.
 #[derive(Clone, Copy)]
@@ -19,12 +21,14 @@ pub(crate) struct Done<E, N> {
     pub(crate) note: N,
 }
 
-/// A process with what it has handled.
+/// A process with what it has handled. Committed events cannot be undone, so that they keep no note.
 #[derive(Drop)]
 pub(crate) struct Past<'a, M: ProcessModel> {
     model: &'a M,
     number: u32,
     state: M::State,
+    committed: Vec<M::Event>,
+    done: u64,
     steps: Vec<Done<M::Event, M::Note>>,
 }
 
@@ -35,30 +39,32 @@ impl<'a, M: ProcessModel> Model for Past<'a, M> {
 
     ghost Value = { Handled M M.Event };
 
-    ghost view = { λ a. record { model = a.model.now; number = a.number; history = events_of (reverse a.steps.items) } };
+    ghost view = { λ a. record { model = a.model.now; number = a.number; ahead = events_of (reverse a.steps.items); past = reverse a.committed.items; done = a.done } };
 
     ghost invariant = { λ a. M.is_state a.model.now a.number a.state
-        × IsPast (simulation_of M.Event.parts M.Event.cmp (M.behaviour a.model.now)) (M.behaviour a.model.now).latest (M.is_note a.model.now) a.number (M.known a.state) a.steps.items };
+        × IsPast (simulation_of M.Event.parts M.Event.cmp (M.behaviour a.model.now)) (M.behaviour a.model.now).latest (M.is_note a.model.now) a.number (reverse a.committed.items) (M.known a.state) a.done a.steps.items };
 }
 
 impl<'a, M: ProcessModel> Past<'a, M> {
     /// A process that has handled nothing.
     pub(crate) fn new(alloc: Global, model: &'a M, number: u32) -> Result<Past<'a, M>, AllocError>
         requires { number < (M.behaviour model.now).processes }
-        ensures { IfOk result (λ p. p ≡ record { model = model.now; number = number; history = [] }) }
+        ensures { IfOk result (λ p. p ≡ record { model = model.now; number = number; ahead = []; past = []; done = 0 }) }
     {
         let state = model.begin(alloc, number)?;
         Ok(Past {
             model,
             number,
             state,
+            committed: Vec::new(alloc),
+            done: 0,
             steps: Vec::new(alloc),
         })
     }
 
-    /// How many events it has handled and not undone.
+    /// How many events it can undo.
     pub(crate) fn len(&self) -> usize
-        ensures { result ≡ length self.now.history }
+        ensures { result ≡ length self.now.ahead }
     {
         self.steps.len()
     }
@@ -70,38 +76,63 @@ impl<'a, M: ProcessModel> Past<'a, M> {
         self.model
     }
 
+    /// Its number.
+    pub(crate) fn number(&self) -> u32
+        ensures { result ≡ self.now.number }
+    {
+        self.number
+    }
+
     /// Tells what holds of every process. It does nothing.
     pub(crate) fn keeps_laws(&self)
         ensures lawful { IsLawful (simulation_of M.Event.parts M.Event.cmp (M.behaviour self.now.model)) }
         ensures here { self.now.number < (M.behaviour self.now.model).processes }
-        ensures len { length self.now.history < 2 ^ 64 }
+        ensures len { length self.now.ahead < 2 ^ 64 }
+        ensures early { AllByRecursion (λ e. M.Event.parts.time e < self.now.done) self.now.past }
     {
-        let _handled = self.len();
+        let _ahead = self.len();
         model_is_lawful(self.model);
     }
 
-    /// The event that it handled last. It was one for this process.
-    pub(crate) fn newest(&self) -> Option<M::Event>
-        ensures value { result ≡ slice_get self.now.history 0 }
+    /// The event that it handled last, where it can undo it. It was one for this process.
+    pub(crate) fn newest_ahead(&self) -> Option<M::Event>
+        ensures value { result ≡ slice_get self.now.ahead 0 }
         ensures own { IfSome result (λ e. (M.Event.parts.dst e ≡ self.now.number) × ((M.behaviour self.now.model).suits e ≡ true)) }
     {
         let done = self.steps.last()?;
         Some(done.event)
     }
 
+    /// The event that it handled last, whether committed or not.
+    pub(crate) fn newest(&self) -> Option<M::Event>
+        ensures { result ≡ slice_get (self.now.ahead ++ self.now.past) 0 }
+    {
+        match self.newest_ahead() {
+            Some(event) => Some(event),
+            None => last_of(&self.committed),
+        }
+    }
+
     /// Whether this is the event that it handled last.
     pub(crate) fn is_newest(&self, event: &M::Event) -> bool
-        ensures { result ≡ is_newest (simulation_of M.Event.parts M.Event.cmp (M.behaviour self.now.model)) event.now self.now.history }
+        ensures { result ≡ is_newest (simulation_of M.Event.parts M.Event.cmp (M.behaviour self.now.model)) event.now (self.now.ahead ++ self.now.past) }
     {
-        match self.steps.last() {
-            Some(done) => event.cmp(&done.event).is_eq(),
+        match self.newest() {
+            Some(newest) => event.cmp(&newest).is_eq(),
             None => false,
         }
     }
 
+    /// Whether it has handled this event and can undo it.
+    pub(crate) fn has_ahead(&self, event: &M::Event) -> bool
+        ensures { result ≡ nat_lt 0 (times (simulation_of M.Event.parts M.Event.cmp (M.behaviour self.now.model)) event.now self.now.ahead) }
+    {
+        is_among(&self.steps, event)
+    }
+
     /// Its state.
     pub(crate) fn state(&self) -> &M::State
-        ensures known { M.known result.now ≡ state (simulation_of M.Event.parts M.Event.cmp (M.behaviour self.now.model)) self.now.number self.now.history }
+        ensures known { M.known result.now ≡ state (simulation_of M.Event.parts M.Event.cmp (M.behaviour self.now.model)) self.now.number (self.now.ahead ++ self.now.past) }
         ensures own { M.is_state self.now.model self.now.number result.now }
     {
         &self.state
@@ -117,18 +148,20 @@ impl<'a, M: ProcessModel> Past<'a, M> {
         requires suits { (M.behaviour self.old.model).suits event ≡ true }
         requires time { M.Event.parts.time event < (M.behaviour self.old.model).latest }
         requires room { vec_len sends.old + (M.behaviour self.old.model).most ≤ vec_capacity sends.old }
-        ensures ok { OnOk result (self.new ≡ record self.old { history = event ∷ self.old.history }) }
+        ensures ok { OnOk result (self.new ≡ record self.old { ahead = event ∷ self.old.ahead }) }
         ensures sends { OnOk result (sends.new.items ≡ sends.old.items ++ (M.behaviour self.old.model).sends
-            (state (simulation_of M.Event.parts M.Event.cmp (M.behaviour self.old.model)) self.old.number self.old.history) event) }
+            (state (simulation_of M.Event.parts M.Event.cmp (M.behaviour self.old.model)) self.old.number (self.old.ahead ++ self.old.past)) event) }
         ensures err { OnErr result (self.new ≡ self.old) }
         ensures unsent { OnErr result (sends.new.items ≡ sends.old.items) }
         ensures capacity { vec_capacity sends.old ≤ vec_capacity sends.new }
         ensures full { IsErrOf result CounterFull ↔ ((M.behaviour self.old.model).full
-            (state (simulation_of M.Event.parts M.Event.cmp (M.behaviour self.old.model)) self.old.number self.old.history) event ≡ true) }
+            (state (simulation_of M.Event.parts M.Event.cmp (M.behaviour self.old.model)) self.old.number (self.old.ahead ++ self.old.past)) event ≡ true) }
     {
         advance(
             self.model,
             self.number,
+            &self.committed,
+            self.done,
             &mut self.state,
             &mut self.steps,
             event,
@@ -138,41 +171,111 @@ impl<'a, M: ProcessModel> Past<'a, M> {
 
     /// Undoes the event that it handled last; what that had sent goes behind `sends` once more, which has room for it.
     pub(crate) fn undo_last(&mut self, sends: &mut Vec<M::Event>)
-        requires some { 0 < length self.old.history }
+        requires some { 0 < length self.old.ahead }
         requires room { vec_len sends.old + (M.behaviour self.old.model).most ≤ vec_capacity sends.old }
         ensures capacity { vec_capacity sends.old ≤ vec_capacity sends.new }
-        ensures same { self.new ≡ record self.old { history = self.new.history } }
+        ensures same { self.new ≡ record self.old { ahead = self.new.ahead } }
         ensures undone { let m = simulation_of M.Event.parts M.Event.cmp (M.behaviour self.old.model) in
-            IsUndone m self.old.number self.old.history self.new.history sends.old.items sends.new.items }
+            IsUndone m self.old.number self.old.past self.old.ahead self.new.ahead sends.old.items sends.new.items }
     {
         step_back(
             self.model,
             self.number,
+            &self.committed,
+            self.done,
             &mut self.state,
             &mut self.steps,
             sends,
         );
     }
+
+    /// The oldest events that it can undo become committed, as far as each is before the bound, a time in ticks: their
+    /// notes are let go. Without memory it is as it was; where none becomes committed, none is taken.
+    pub(crate) fn commit(&mut self, bound: u64) -> Result<(), AllocError>
+        requires { self.old.done ≤ bound }
+        ensures ok { let m = simulation_of M.Event.parts M.Event.cmp (M.behaviour self.old.model) in OnOk result (self.new ≡ committed_to m bound self.old) }
+        ensures past { let m = simulation_of M.Event.parts M.Event.cmp (M.behaviour self.old.model) in
+            let h = self.old.ahead ++ self.old.past in OnOk result (IsFalling m h → self.new.past ≡ below m bound h) }
+        ensures ahead { let m = simulation_of M.Event.parts M.Event.cmp (M.behaviour self.old.model) in
+            let h = self.old.ahead ++ self.old.past in OnOk result (IsFalling m h → self.new.ahead ≡ not_before m bound h) }
+        ensures err { OnErr result (self.new ≡ self.old) }
+    {
+        model_is_lawful(self.model);
+        let count = first_before(&self.steps, bound);
+        self.committed.reserve(count)?;
+        add_events(&mut self.committed, &self.steps[..count]);
+        drop_first(&mut self.steps, count);
+        self.done = bound;
+        Ok(())
+    }
 }
 
-/// Handles an event, and keeps its note.
+/// The last event of a list.
+fn last_of<E: Timed>(events: &[E]) -> Option<E>
+    ensures { result ≡ slice_get (reverse events.now) 0 }
+{
+    let last = events.last()?;
+    Some(*last)
+}
+
+/// Whether one of the steps is of this event.
+fn is_among<E: Timed, N: Copy>(steps: &[Done<E, N>], event: &E) -> bool
+    ensures { result ≡ list_any (λ d. is_same E.cmp event.now d.event) steps.now }
+{
+    steps.iter().any(|step| event.cmp(&step.event).is_eq())
+}
+
+/// How many steps, from the first on, are all of events before a time, in ticks.
+fn first_before<E: Timed, N: Copy>(steps: &[Done<E, N>], time: u64) -> usize
+    ensures value { result ≡ prefix_len (λ d. nat_lt (E.parts.time d.event) time) steps.now }
+    ensures within { result ≤ length steps.now }
+{
+    steps
+        .iter()
+        .take_while(|step| step.event.time() < time)
+        .count()
+}
+
+/// Adds the events of steps, for which there is room.
+fn add_events<E: Timed, N: Copy>(events: &mut Vec<E>, steps: &[Done<E, N>])
+    requires { vec_len events.old + length steps.now ≤ vec_capacity events.old }
+    ensures { events.new.items ≡ events.old.items ++ map (λ d. d.event) steps.now }
+{
+    for step in steps {
+        events.push_reserved(step.event);
+    }
+}
+
+/// Drops the first steps, so many.
+fn drop_first<E: Timed, N: Copy>(steps: &mut Vec<Done<E, N>>, count: usize)
+    requires { count ≤ vec_len steps.old }
+    ensures { steps.new.items ≡ drop count steps.old.items }
+{
+    let left = steps.len() - count;
+    steps.rotate_left(count);
+    steps.truncate(left);
+}
+
+/// Handles an event, and keeps its note. What is committed tells the contract what the process knows.
 #[inline(always)]
 fn advance<M: ProcessModel>(
     model: &M,
     number: u32,
+    committed: &Vec<M::Event>,
+    done: u64,
     state: &mut M::State,
     steps: &mut Vec<Done<M::Event, M::Note>>,
     event: M::Event,
     sends: &mut Vec<M::Event>,
 ) -> Result<(), Refused>
     requires own { M.is_state model.now number state.old }
-    requires past { IsPast (simulation_of M.Event.parts M.Event.cmp (M.behaviour model.now)) (M.behaviour model.now).latest (M.is_note model.now) number (M.known state.old) steps.old.items }
+    requires past { IsPast (simulation_of M.Event.parts M.Event.cmp (M.behaviour model.now)) (M.behaviour model.now).latest (M.is_note model.now) number (reverse committed.now.items) (M.known state.old) done steps.old.items }
     requires home { M.Event.parts.dst event ≡ number }
     requires suits { (M.behaviour model.now).suits event ≡ true }
     requires time { M.Event.parts.time event < (M.behaviour model.now).latest }
     requires room { vec_len sends.old + (M.behaviour model.now).most ≤ vec_capacity sends.old }
     ensures own { M.is_state model.now number state.new }
-    ensures past { IsPast (simulation_of M.Event.parts M.Event.cmp (M.behaviour model.now)) (M.behaviour model.now).latest (M.is_note model.now) number (M.known state.new) steps.new.items }
+    ensures past { IsPast (simulation_of M.Event.parts M.Event.cmp (M.behaviour model.now)) (M.behaviour model.now).latest (M.is_note model.now) number (reverse committed.now.items) (M.known state.new) done steps.new.items }
     ensures ok { OnOk result (events_of (reverse steps.new.items) ≡ event ∷ events_of (reverse steps.old.items)) }
     ensures kept { OnErr result (steps.new.items ≡ steps.old.items) }
     ensures sends { OnOk result (sends.new.items ≡ sends.old.items ++ (M.behaviour model.now).sends (M.known state.old) event) }
@@ -192,25 +295,27 @@ fn advance<M: ProcessModel>(
     }
 }
 
-/// Undoes the last event, and drops its note.
+/// Undoes the last event, and drops its note. What is committed tells the contract what the process knows.
 #[inline(always)]
 fn step_back<M: ProcessModel>(
     model: &M,
     number: u32,
+    committed: &Vec<M::Event>,
+    done: u64,
     state: &mut M::State,
     steps: &mut Vec<Done<M::Event, M::Note>>,
     sends: &mut Vec<M::Event>,
 )
     requires own { M.is_state model.now number state.old }
-    requires past { IsPast (simulation_of M.Event.parts M.Event.cmp (M.behaviour model.now)) (M.behaviour model.now).latest (M.is_note model.now) number (M.known state.old) steps.old.items }
+    requires past { IsPast (simulation_of M.Event.parts M.Event.cmp (M.behaviour model.now)) (M.behaviour model.now).latest (M.is_note model.now) number (reverse committed.now.items) (M.known state.old) done steps.old.items }
     requires some { 0 < vec_len steps.old }
     requires room { vec_len sends.old + (M.behaviour model.now).most ≤ vec_capacity sends.old }
     ensures own { M.is_state model.now number state.new }
-    ensures past { IsPast (simulation_of M.Event.parts M.Event.cmp (M.behaviour model.now)) (M.behaviour model.now).latest (M.is_note model.now) number (M.known state.new) steps.new.items }
+    ensures past { IsPast (simulation_of M.Event.parts M.Event.cmp (M.behaviour model.now)) (M.behaviour model.now).latest (M.is_note model.now) number (reverse committed.now.items) (M.known state.new) done steps.new.items }
     ensures capacity { vec_capacity sends.old ≤ vec_capacity sends.new }
     ensures undone { let m = simulation_of M.Event.parts M.Event.cmp (M.behaviour model.now) in
-        IsUndone m number (events_of (reverse steps.old.items)) (events_of (reverse steps.new.items)) sends.old.items sends.new.items }
+        IsUndone m number (reverse committed.now.items) (events_of (reverse steps.old.items)) (events_of (reverse steps.new.items)) sends.old.items sends.new.items }
 {
-    let done = steps.take_last();
-    model.reverse(number, state, &done.event, done.note, sends);
+    let step = steps.take_last();
+    model.reverse(number, state, &step.event, step.note, sends);
 }

@@ -1,14 +1,15 @@
 //! A step of a logical process, over its parts.
 
-ghost use Rattle.std.specs.Prelude.{ℕ, ◌≡◌, ◌+◌, ◌<◌, ◌≤◌, ◌↔◌, ◌++◌, ◌∷◌, [], true, IfSome, IsErrOf, OnErr, OnOk, length, slice_get, vec_capacity, vec_len, map, Ok, Err};
-ghost use Rattle.tw_core.specs.Steps.{first_pending, handle, undo};
+ghost use Rattle.std.specs.Prelude.{List, ℕ, ◌≡◌, ◌+◌, ◌<◌, ◌≤◌, ◌↔◌, ◌++◌, true, IsErrOf, OnErr, OnOk, length, vec_capacity, vec_len, map, Ok, Err};
+ghost use Rattle.tw_core.specs.Steps.{first_pending, handle};
 ghost use Rattle.tw_core.specs.declared.refusal.Refusal.{Refusal as AnyRefusal};
-ghost use Rattle.tw_engine.specs.Process.{AreOwn, joined, process_core};
+ghost use Rattle.tw_engine.specs.Process.{AreOwn, IsOneUndone, joined, process_core};
 ghost use Rattle.tw_engine.specs.declared.stopped.Stopped.TheVariants as stopped;
 ghost use Rattle.tw_process.specs.Behaviour.{simulation_of};
 
 use crate::past::Past;
 use crate::stopped::Stopped;
+use std::alloc::AllocError;
 use tw_core::Refusal;
 use tw_pending::Pending;
 use tw_process::{ProcessModel, Refused, Timed};
@@ -27,7 +28,7 @@ pub(crate) fn put_out<E: Copy>(flight: &mut Vec<Signed<E>>, events: &[E], plus: 
     }
 }
 
-/// The process handles its first pending event, where that is before the stop.
+/// The process handles its first pending event, where that is before the stop, whatever it keeps and its bound.
 pub(crate) fn handle_first<M: ProcessModel>(
     past: &mut Past<'_, M>,
     pending: &mut Pending<M::Event>,
@@ -42,14 +43,16 @@ pub(crate) fn handle_first<M: ProcessModel>(
     ensures room { vec_capacity sends.old ≤ vec_capacity sends.new }
     ensures empty { vec_len sends.new ≡ 0 }
     ensures own { AreOwn (simulation_of M.Event.parts M.Event.cmp (M.behaviour past.old.model)) past.old.number pending.new }
-    ensures same { past.new ≡ record past.old { history = past.new.history } }
-    ensures ok { let m = simulation_of M.Event.parts M.Event.cmp (M.behaviour past.old.model) in
-        let C = process_core stop (joined past.old pending.old flight.old.items) in
-        OnOk result (handle m C past.old.number (first_pending m C past.old.number) ≡ Ok (process_core stop (joined past.new pending.new flight.new.items))) }
-    ensures refused { let m = simulation_of M.Event.parts M.Event.cmp (M.behaviour past.old.model) in
-        let C = process_core stop (joined past.old pending.old flight.old.items) in
+    ensures same { past.new ≡ record past.old { ahead = past.new.ahead } }
+    ensures ok { (kept : List M.Event) (bound : ℕ) → let m = simulation_of M.Event.parts M.Event.cmp (M.behaviour past.old.model) in
+        let C = process_core stop (joined past.old pending.old kept flight.old.items bound) in
+        OnOk result (handle m C past.old.number (first_pending m C past.old.number) ≡ Ok (process_core stop (joined past.new pending.new kept flight.new.items bound))) }
+    ensures refused { (kept : List M.Event) (bound : ℕ) → let m = simulation_of M.Event.parts M.Event.cmp (M.behaviour past.old.model) in
+        let C = process_core stop (joined past.old pending.old kept flight.old.items bound) in
         (f : AnyRefusal) → IsErrOf result (stopped.Refused f) ↔ (handle m C past.old.number (first_pending m C past.old.number) ≡ Err f) }
-    ensures err { OnErr result (joined past.new pending.new flight.new.items ≡ joined past.old pending.old flight.old.items) }
+    ensures err { OnErr result (past.new ≡ past.old) }
+    ensures unmoved { OnErr result (pending.new ≡ pending.old) }
+    ensures unsent { OnErr result (flight.new.items ≡ flight.old.items) }
 {
     past.keeps_laws();
     let Some(event) = pending.least() else {
@@ -78,32 +81,29 @@ pub(crate) fn handle_first<M: ProcessModel>(
     Ok(())
 }
 
-/// The process undoes the event that it handled last.
+/// The process undoes the newest event that it can undo, whatever it keeps and its bound.
 pub(crate) fn undo_newest<M: ProcessModel>(
     past: &mut Past<'_, M>,
     pending: &mut Pending<M::Event>,
     flight: &mut Vec<Signed<M::Event>>,
     sends: &mut Vec<M::Event>,
-) -> Result<(), Stopped>
+) -> Result<(), AllocError>
+    requires some { 0 < length past.old.ahead }
     requires own { AreOwn (simulation_of M.Event.parts M.Event.cmp (M.behaviour past.old.model)) past.old.number pending.old }
     requires room { (M.behaviour past.old.model).most ≤ vec_capacity sends.old }
     requires empty { vec_len sends.old ≡ 0 }
     ensures room { vec_capacity sends.old ≤ vec_capacity sends.new }
     ensures empty { vec_len sends.new ≡ 0 }
     ensures own { AreOwn (simulation_of M.Event.parts M.Event.cmp (M.behaviour past.old.model)) past.old.number pending.new }
-    ensures same { past.new ≡ record past.old { history = past.new.history } }
-    ensures ok { let m = simulation_of M.Event.parts M.Event.cmp (M.behaviour past.old.model) in
-        (stop : ℕ) → OnOk result (undo m (process_core stop (joined past.old pending.old flight.old.items)) past.old.number past.old.history
-        ≡ Ok (process_core stop (joined past.new pending.new flight.new.items))) }
-    ensures refused { let m = simulation_of M.Event.parts M.Event.cmp (M.behaviour past.old.model) in
-        (stop : ℕ) (f : AnyRefusal) → IsErrOf result (stopped.Refused f)
-        ↔ (undo m (process_core stop (joined past.old pending.old flight.old.items)) past.old.number past.old.history ≡ Err f) }
-    ensures err { OnErr result (joined past.new pending.new flight.new.items ≡ joined past.old pending.old flight.old.items) }
+    ensures same { past.new ≡ record past.old { ahead = past.new.ahead } }
+    ensures ok { (kept : List M.Event) (bound : ℕ) → let m = simulation_of M.Event.parts M.Event.cmp (M.behaviour past.old.model) in
+        OnOk result (IsOneUndone m (joined past.old pending.old kept flight.old.items bound) (joined past.new pending.new kept flight.new.items bound)) }
+    ensures err { OnErr result (past.new ≡ past.old) }
+    ensures unmoved { OnErr result (pending.new ≡ pending.old) }
+    ensures unsent { OnErr result (flight.new.items ≡ flight.old.items) }
 {
     past.keeps_laws();
-    let Some(event) = past.newest() else {
-        return Err(Stopped::Refused(Refusal::Nothing));
-    };
+    let event = past.newest_ahead().unwrap();
     flight.reserve(past.model().most_sends())?;
     pending.insert(event)?;
     past.undo_last(sends);

@@ -1,5 +1,5 @@
 -- How often events stand in a tick, a heap and lists, when one comes, or moves from a list to the tick.
-use Rattle.std.proofs.Common.{◌≡◌, ℕ, zero, suc, ◌+◌, List, [], ◌∷◌, ◌++◌, Some, set, slice_get, refl, ap, arith}
+use Rattle.std.proofs.Common.{◌≡◌, ℕ, zero, suc, ◌+◌, List, [], ◌∷◌, ◌++◌, Some, set, slice_get, ap, arith}
 use Rattle.std.specs.Cmp.{IsTotalOrder}
 use Rattle.std.specs.declared.cmp.Ordering.{Ordering}
 use Rattle.std.specs.declared.cmp.Ordering.TheVariants.{Equal}
@@ -14,7 +14,7 @@ module _ {E : Type 0} (cmp : E → E → Ordering) where
   count-append e [] ys = omega arith
   count-append e (x ∷ xs) ys = let k = count-append e xs ys in omega arith
 
-  count_set : (e : E) (days : List (List E)) (i : ℕ) (day new : List E) → slice_get days i ≡ Some day
+  pub count_set : (e : E) (days : List (List E)) (i : ℕ) (day new : List E) → slice_get days i ≡ Some day
       → count cmp e (all_of (set days i new)) + count cmp e day ≡ count cmp e (all_of days) + count cmp e new
   count_set e [] i day new h = absurd (cc)
   count_set e (d ∷ ds) zero day new h =

@@ -50,7 +50,7 @@ module _ {E : Type 0} (cmp : E → E → Ordering) where
   count_sum e (x ∷ xs) = let h = count_sum e xs in let k = sum_by-cons (λ y. one (is_same cmp) e y) x xs in omega arith
 
   -- where they stand does not count
-  count-permuted : (e : E) (xs ys : List E) → IsPermutation xs ys → count cmp e ys ≡ count cmp e xs
+  pub count-permuted : (e : E) (xs ys : List E) → IsPermutation xs ys → count cmp e ys ≡ count cmp e xs
   count-permuted e xs ys p = count_sum e ys ∙ sum_by-IsPermutation (λ x. one (is_same cmp) e x) xs ys p ∙ sym (count_sum e xs)
 
   -- one more in a heap
@@ -69,7 +69,7 @@ module _ {E : Type 0} (cmp : E → E → Ordering) where
     own e = one_self (is_before cmp) (is_same cmp) law e
 
     -- two lists in order in which each event stands as often are the same
-    same_rising : (xs ys : List E) → IsInOrder cmp xs → IsInOrder cmp ys → ((e : E) → count cmp e xs ≡ count cmp e ys) → xs ≡ ys
+    pub same_rising : (xs ys : List E) → IsInOrder cmp xs → IsInOrder cmp ys → ((e : E) → count cmp e xs ≡ count cmp e ys) → xs ≡ ys
     same_rising [] [] r q h = refl
     same_rising [] (y ∷ ys) r q h = absurd (let k = h y in let o = own y in omega arith)
     same_rising (x ∷ xs) [] r q h = absurd (let k = h x in let o = own x in omega arith)

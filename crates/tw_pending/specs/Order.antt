@@ -1,5 +1,5 @@
 -- Events in the order of their comparison (own).
-use Rattle.std.specs.Prelude.{ℕ, ◌+◌, ◌≡◌, Bool, List, []}
+use Rattle.std.specs.Prelude.{ℕ, ◌+◌, ◌≡◌, Bool, not, List, []}
 use Rattle.std.specs.Ordering.{is_eq, is_lt}
 use Rattle.std.specs.declared.cmp.Ordering.{Ordering}
 use Rattle.std.specs.declared.cmp.Reverse.{Reverse}
@@ -13,6 +13,9 @@ module _ {E : Type 0} (cmp : E → E → Ordering) where
 
   abbrev pub is_same : E → E → Bool
   is_same d e = is_eq (cmp d e)
+
+  abbrev pub is_other : E → E → Bool
+  is_other d e = not (is_same d e)
 
   -- the order in which a heap has the least event on top
   abbrev pub reversed : Reverse E → Reverse E → Ordering

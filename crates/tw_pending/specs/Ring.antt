@@ -1,6 +1,6 @@
 -- Events of the tick at hand, of the next ticks, in a list for each, and all others, in a heap (own, after Brown, Calendar queues,
 -- 1988).
-use Rattle.std.specs.Prelude.{ℕ, ◌+◌, ◌≡◌, ◌≤◌, ◌<◌, ◌^◌, ◌%◌, ◌⊎◌, List, [], ◌∷◌, ◌++◌, length, map}
+use Rattle.std.specs.Prelude.{ℕ, ◌+◌, ◌≡◌, ◌≤◌, ◌<◌, ◌^◌, ◌%◌, ◌⊎◌, List, [], ◌∷◌, ◌++◌, Some, length, map, remove, slice_get, slice_set}
 use Rattle.std.specs.List.{AllByRecursion}
 use Rattle.std.specs.declared.cmp.Ordering.{Ordering}
 use Rattle.std.specs.declared.cmp.Reverse.{Reverse}
@@ -59,3 +59,7 @@ module _ {E : Type 0} (time : E → ℕ) (today : ℕ) where
 -- all events of the lists are before a time
 abbrev pub AreBefore : {E : Type 0} → (E → ℕ) → ℕ → List (List E) → Type 0
 AreBefore time horizon days = AllByRecursion (λ e. time e < horizon) (all_of days)
+
+-- of one list, the one at this place, this event is gone
+abbrev pub IsRemovedAt : {E : Type 0} → E → ℕ → List E → List (List E) → List (List E) → Type 0
+IsRemovedAt event place day old new = (at : ℕ) × (at < length day) × (slice_get day at ≡ Some event) × (new ≡ slice_set old place (remove day at))

@@ -3,11 +3,11 @@
 ghost use Rattle.std.specs.Prelude.{◌≡◌, ◌+◌, ◌<◌, ◌≤◌, ◌∷◌, ◌++◌, [], drop, length, slice_get};
 ghost use Rattle.std.specs.BinaryHeap.{IsHeap, heap_capacity, heap_items, heap_len};
 ghost use Rattle.std.specs.Bool.{OnFalse, OnTrue};
-ghost use Rattle.tw_pending.specs.Order.{AreWith, reversed};
+ghost use Rattle.tw_pending.specs.Order.{AreWith, count, reversed};
 ghost use Rattle.tw_pending.specs.Ring.{IsBegun, IsDue, IsRing, all_in, all_of, events_of, lists_of, waiting_in};
 
-use crate::heap::push_one;
-use crate::ring::{Ring, catch_up, keep, settle};
+use crate::heap::{push_one, remove_one};
+use crate::ring::{Ring, catch_up, keep, let_go, settle};
 use crate::tick::Tick;
 use std::cmp::Reverse;
 use std::collections::BinaryHeap;
@@ -108,6 +108,35 @@ pub(crate) fn take_first<E: Timed>(
     }
     let top = heap.pop()?;
     Some(top.0)
+}
+
+/// Takes out one event that equals this one, where there is one, and tells whether there was. It takes no memory.
+pub(crate) fn take_equal<E: Timed>(
+    tick: &mut Tick<E>,
+    heap: &mut BinaryHeap<Reverse<E>>,
+    ring: &mut Ring<E>,
+    event: &E,
+) -> bool
+    requires ring { IsRing E.parts.time ring.old.today ring.old.waiting (lists_of ring.old.days.items) }
+    requires heap { IsHeap (reversed E.cmp) (heap_items heap.old) }
+    requires begun { IsBegun E.parts.time ring.old.today tick.old }
+    ensures ring { IsRing E.parts.time ring.new.today ring.new.waiting (lists_of ring.new.days.items) }
+    ensures heap { IsHeap (reversed E.cmp) (heap_items heap.new) }
+    ensures begun { IsBegun E.parts.time ring.new.today tick.new }
+    ensures yes { OnTrue result (AreWith E.cmp (event.now ∷ []) (tick.new ++ waiting_in (heap_items heap.new) (lists_of ring.new.days.items))
+        (tick.old ++ waiting_in (heap_items heap.old) (lists_of ring.old.days.items))) }
+    ensures no { OnFalse result (AreWith E.cmp [] (tick.new ++ waiting_in (heap_items heap.new) (lists_of ring.new.days.items))
+        (tick.old ++ waiting_in (heap_items heap.old) (lists_of ring.old.days.items))) }
+    ensures none { OnFalse result (count E.cmp event.now (tick.old ++ waiting_in (heap_items heap.old) (lists_of ring.old.days.items)) ≡ 0) }
+{
+    if tick.remove(event) {
+        return true;
+    }
+    if let_go(ring, event) {
+        return true;
+    }
+    let alloc = *ring.days.allocator();
+    remove_one(heap, alloc, event)
 }
 
 /// The ring goes on, until the least event of all is in the tick or the heap.

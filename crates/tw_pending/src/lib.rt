@@ -8,6 +8,7 @@
 mod calendar;
 mod heap;
 mod pending;
+mod places;
 mod ring;
 mod tick;
 

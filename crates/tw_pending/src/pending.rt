@@ -1,10 +1,11 @@
 //! Events that wait, the least first.
 
-ghost use Rattle.std.specs.Prelude.{◌≡◌, [], IfOk, OnErr, OnOk, drop, slice_get};
-ghost use Rattle.tw_sim.specs.Ordered.{insert, insert_all};
-ghost use Rattle.tw_pending.specs.Order.{IsInOrder, is_before};
+ghost use Rattle.std.specs.Prelude.{◌≡◌, [], IfOk, OnErr, OnOk, drop, nat_lt, slice_get};
+ghost use Rattle.std.specs.Bool.{OnFalse};
+ghost use Rattle.tw_sim.specs.Ordered.{insert, insert_all, take_out};
+ghost use Rattle.tw_pending.specs.Order.{IsInOrder, count, is_before, is_same};
 
-use crate::calendar::{go_on, is_heap_first, put, put_each, take_first};
+use crate::calendar::{go_on, is_heap_first, put, put_each, take_equal, take_first};
 use crate::ring::{DAYS, Ring};
 use crate::tick::Tick;
 use std::alloc::{AllocError, Global};
@@ -123,6 +124,18 @@ impl<E: Timed> Pending<E> {
         }
         let top = self.heap.peek()?;
         Some(top.0)
+    }
+
+    /// Takes out one event that equals this one, where there is one, and tells whether there was. It looks at all that
+    /// wait, and takes no memory.
+    pub fn remove(&mut self, event: &E) -> bool
+        ensures value { result ≡ nat_lt 0 (count E.cmp event.now self.old) }
+        ensures rest { self.new ≡ take_out (is_same E.cmp) event.now self.old }
+        ensures none { OnFalse result (self.new ≡ self.old) }
+    {
+        let found = take_equal(&mut self.tick, &mut self.heap, &mut self.ring, event);
+        go_on(&mut self.tick, &self.heap, &mut self.ring);
+        found
     }
 
     /// Takes out the least event.

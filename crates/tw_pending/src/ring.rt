@@ -3,9 +3,10 @@
 ghost use Rattle.std.specs.Prelude.{ℕ, ◌≡◌, ◌+◌, ◌<◌, ◌≤◌, ◌^◌, ◌∷◌, ◌++◌, [], List, Some, length, slice_get, slice_set};
 ghost use Rattle.std.specs.Bool.{OnFalse, OnTrue};
 ghost use Rattle.std.specs.BinaryHeap.{heap_items};
-ghost use Rattle.tw_pending.specs.Order.{AreWith, in_order};
-ghost use Rattle.tw_pending.specs.Ring.{AreBefore, IsBegun, IsDue, IsRing, all_of, events_of, lists_of};
+ghost use Rattle.tw_pending.specs.Order.{AreWith, count, in_order};
+ghost use Rattle.tw_pending.specs.Ring.{AreBefore, IsBegun, IsDue, IsRemovedAt, IsRing, all_of, events_of, lists_of};
 
+use crate::places::place_of;
 use crate::tick::Tick;
 use std::cmp::Reverse;
 use std::collections::BinaryHeap;
@@ -67,6 +68,42 @@ fn add<E: Timed>(days: &mut Vec<Vec<E>>, place: usize, event: E) -> bool
         return false;
     }
     day.push_reserved(event);
+    true
+}
+
+/// Takes out one event that equals this one, where there is one, and tells whether there was.
+pub(crate) fn let_go<E: Timed>(ring: &mut Ring<E>, event: &E) -> bool
+    requires { IsRing E.parts.time ring.old.today ring.old.waiting (lists_of ring.old.days.items) }
+    ensures ring { IsRing E.parts.time ring.new.today ring.new.waiting (lists_of ring.new.days.items) }
+    ensures today { ring.new.today ≡ ring.old.today }
+    ensures yes { OnTrue result (AreWith E.cmp (event.now ∷ []) (all_of (lists_of ring.new.days.items)) (all_of (lists_of ring.old.days.items))) }
+    ensures no { OnFalse result (lists_of ring.new.days.items ≡ lists_of ring.old.days.items) }
+    ensures none { OnFalse result (count E.cmp event.now (all_of (lists_of ring.old.days.items)) ≡ 0) }
+{
+    let place = (event.time() % DAYS) as usize;
+    if place >= ring.days.len() {
+        return false;
+    }
+    if !remove_at(&mut ring.days, place, event) {
+        return false;
+    }
+    ring.waiting -= 1;
+    true
+}
+
+/// Takes out of the list at this place one event that equals this one, where there is one, and tells whether there was.
+fn remove_at<E: Timed>(days: &mut Vec<Vec<E>>, place: usize, event: &E) -> bool
+    requires { place < length days.old.items }
+    ensures yes { (day : List E) → slice_get (lists_of days.old.items) place ≡ Some day → OnTrue result (IsRemovedAt event.now place day (lists_of days.old.items) (lists_of days.new.items)) }
+    ensures no { OnFalse result (lists_of days.new.items ≡ lists_of days.old.items) }
+    ensures none { (day : List E) → slice_get (lists_of days.old.items) place ≡ Some day → OnFalse result (count E.cmp event.now day ≡ 0) }
+{
+    let day = &mut days[place];
+    let at = place_of(day.as_slice(), event);
+    if at >= day.len() {
+        return false;
+    }
+    let _ = day.remove(at);
     true
 }
 

@@ -1,9 +1,11 @@
 //! The events of the tick at hand, put in order once.
 
-ghost use Rattle.std.specs.Prelude.{◌≡◌, ◌<◌, [], drop, length, slice_get};
+ghost use Rattle.std.specs.Prelude.{ℕ, ◌≡◌, ◌<◌, ◌∷◌, [], drop, length, slice_get};
 ghost use Rattle.std.specs.Bool.{OnFalse, OnTrue};
-ghost use Rattle.tw_pending.specs.Order.{IsInOrder, in_order};
+ghost use Rattle.tw_pending.specs.Order.{AreWith, IsInOrder, count, in_order};
+ghost use Rattle.tw_pending.specs.Ring.{IsBegun};
 
+use crate::places::place_of;
 use std::alloc::Global;
 use std::marker::Model;
 use std::mem::swap;
@@ -66,6 +68,24 @@ impl<E: Timed> Tick<E> {
         if self.taken < self.events.len() {
             self.taken += 1;
         }
+    }
+
+    /// Takes out one event that equals this one, where there is one, and tells whether there was.
+    pub(crate) fn remove(&mut self, event: &E) -> bool
+        ensures yes { OnTrue result (AreWith E.cmp (event.now ∷ []) self.new self.old) }
+        ensures no { OnFalse result (self.new ≡ self.old) }
+        ensures none { OnFalse result (count E.cmp event.now self.old ≡ 0) }
+        ensures begun { (today : ℕ) → IsBegun E.parts.time today self.old → IsBegun E.parts.time today self.new }
+    {
+        if self.is_over() {
+            return false;
+        }
+        let place = place_of(&self.events[self.taken..], event);
+        if place >= self.events.len() - self.taken {
+            return false;
+        }
+        let _ = self.events.remove(self.taken + place);
+        true
     }
 
     /// Takes the events of a list in the place of its own, and puts them in order.

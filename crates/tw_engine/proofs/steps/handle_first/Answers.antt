@@ -5,21 +5,21 @@ use Rattle.tw_process.specs.Behaviour.{simulation_of}
 use Rattle.tw_engine.proofs.steps.handle_first.Goals as goal
 
 pub returns-in_default-clause-refused : goal.returns-in_default-clause-refused
-returns-in_default-clause-refused g c =
+returns-in_default-clause-refused g c = λ kept bound.
     let m = simulation_of g.M.Event.Timed.parts g.M.Event.Ord.cmp (g.M.ProcessModel.behaviour c.args.past.now.model) in
-    let p = joined c.args.past.now c.args.pending.now c.args.flight.now.items in
+    let p = joined c.args.past.now c.args.pending.now kept c.args.flight.now.items bound in
     told _ _ (none m c.keeps_laws.ensures.lawful c.args.stop p c.requires.own c.least.ensures.order (sym c.in_default.ensures.first))
 
 pub returns-then-time-stop-clause-refused : goal.returns-then-time-stop-clause-refused
-returns-then-time-stop-clause-refused g c =
+returns-then-time-stop-clause-refused g c = λ kept bound.
     let m = simulation_of g.M.Event.Timed.parts g.M.Event.Ord.cmp (g.M.ProcessModel.behaviour c.args.past.now.model) in
-    let p = joined c.args.past.now c.args.pending.now c.args.flight.now.items in
+    let p = joined c.args.past.now c.args.pending.now kept c.args.flight.now.items bound in
     told _ _ (late m c.keeps_laws.ensures.lawful c.args.stop p c.requires.own c.least.ensures.order c.in-Some.event (sym c.in-Some.ensures.first) (omega arith))
 
 pub returns-then-is_newest-clause-refused : goal.returns-then-is_newest-clause-refused
-returns-then-is_newest-clause-refused g c =
+returns-then-is_newest-clause-refused g c = λ kept bound.
     let m = simulation_of g.M.Event.Timed.parts g.M.Event.Ord.cmp (g.M.ProcessModel.behaviour c.args.past.now.model) in
-    let p = joined c.args.past.now c.args.pending.now c.args.flight.now.items in
+    let p = joined c.args.past.now c.args.pending.now kept c.args.flight.now.items bound in
     told _ _ (double m c.keeps_laws.ensures.lawful c.args.stop p c.requires.own c.least.ensures.order c.in-Some.event (sym c.in-Some.ensures.first) (omega arith) (sym c.is_newest.ensures ∙ c.if-is_newest.true))
 
 pub handle-requires-clause-home : goal.handle-requires-clause-home
@@ -33,33 +33,33 @@ handle-requires-clause-suits g c =
     (head_own m _ c.args.pending.now c.in-Some.event c.requires.own (sym c.in-Some.ensures.first)).1
 
 pub returns-in-Err-CounterFull-clause-refused : goal.returns-in-Err-CounterFull-clause-refused
-returns-in-Err-CounterFull-clause-refused g c =
+returns-in-Err-CounterFull-clause-refused g c = λ kept bound.
     let m = simulation_of g.M.Event.Timed.parts g.M.Event.Ord.cmp (g.M.ProcessModel.behaviour c.args.past.now.model) in
-    let p = joined c.args.past.now c.args.pending.now c.args.flight.now.items in
+    let p = joined c.args.past.now c.args.pending.now kept c.args.flight.now.items bound in
     told _ _ (counter_full m c.keeps_laws.ensures.lawful c.args.stop p c.requires.own c.least.ensures.order c.in-Some.event (sym c.in-Some.ensures.first) (omega arith) (sym c.is_newest.ensures ∙ c.if-is_newest.false) c.keeps_laws.ensures.len (is_full _ _ c.in-Err-CounterFull.field-0-is c.in-Err-CounterFull.ensures.full))
 
 pub returns-in-Err-Memory-clause-refused : goal.returns-in-Err-Memory-clause-refused
-returns-in-Err-Memory-clause-refused g c =
+returns-in-Err-Memory-clause-refused g c = λ kept bound.
     let m = simulation_of g.M.Event.Timed.parts g.M.Event.Ord.cmp (g.M.ProcessModel.behaviour c.args.past.now.model) in
-    let p = joined c.args.past.now c.args.pending.now c.args.flight.now.items in
+    let p = joined c.args.past.now c.args.pending.now kept c.args.flight.now.items bound in
     untold _ _ (done m c.keeps_laws.ensures.lawful c.args.stop p c.requires.own c.least.ensures.order c.in-Some.event (sym c.in-Some.ensures.first) (omega arith) (sym c.is_newest.ensures ∙ c.if-is_newest.false) c.keeps_laws.ensures.len (not_full _ _ c.in-Err-Memory.field-0-is c.in-Err-Memory.ensures.full))
 
 pub returns-then-is_err-clause-refused : goal.returns-then-is_err-clause-refused
-returns-then-is_err-clause-refused g c =
+returns-then-is_err-clause-refused g c = λ kept bound.
     let m = simulation_of g.M.Event.Timed.parts g.M.Event.Ord.cmp (g.M.ProcessModel.behaviour c.args.past.now.model) in
-    let p = joined c.args.past.now c.args.pending.now c.args.flight.now.items in
+    let p = joined c.args.past.now c.args.pending.now kept c.args.flight.now.items bound in
     untold _ _ (done m c.keeps_laws.ensures.lawful c.args.stop p c.requires.own c.least.ensures.order c.in-Some.event (sym c.in-Some.ensures.first) (omega arith) (sym c.is_newest.ensures ∙ c.if-is_newest.false) c.keeps_laws.ensures.len (not_full_ok _ _ c.in-Ok.ensures.full))
 
 pub returns-clause-refused : goal.returns-clause-refused
-returns-clause-refused g c =
+returns-clause-refused g c = λ kept bound.
     let m = simulation_of g.M.Event.Timed.parts g.M.Event.Ord.cmp (g.M.ProcessModel.behaviour c.args.past.now.model) in
-    let p = joined c.args.past.now c.args.pending.now c.args.flight.now.items in
+    let p = joined c.args.past.now c.args.pending.now kept c.args.flight.now.items bound in
     untold_ok _ _ _ (done m c.keeps_laws.ensures.lawful c.args.stop p c.requires.own c.least.ensures.order c.in-Some.event (sym c.in-Some.ensures.first) (omega arith) (sym c.is_newest.ensures ∙ c.if-is_newest.false) c.keeps_laws.ensures.len (not_full_ok _ _ c.in-Ok.ensures.full))
 
 pub returns-clause-ok : goal.returns-clause-ok
-returns-clause-ok g c =
+returns-clause-ok g c = λ kept bound.
     let m = simulation_of g.M.Event.Timed.parts g.M.Event.Ord.cmp (g.M.ProcessModel.behaviour c.args.past.now.model) in
-    let p = joined c.args.past.now c.args.pending.now c.args.flight.now.items in
+    let p = joined c.args.past.now c.args.pending.now kept c.args.flight.now.items bound in
     as_told m c.keeps_laws.ensures.lawful c.args.stop p c.requires.own c.least.ensures.order c.in-Some.event (sym c.in-Some.ensures.first) (omega arith) (sym c.is_newest.ensures ∙ c.if-is_newest.false) c.keeps_laws.ensures.len c.handle.new.self c.take_least.new.self c.deref.result.now c.args.sends.now.items
     c.put_out.new.flight.items c.reserve.new.self.items c.in-Ok.ensures.ok c.take_least.ensures.rest (nil c.args.sends.now.items (omega (arith, c.args.sends.now.ok.0)))
     (c.deref.ensures.value ∙ c.in-Ok.ensures.sends) c.put_out.ensures c.reserve.ensures.items (not_full_ok _ _ c.in-Ok.ensures.full)

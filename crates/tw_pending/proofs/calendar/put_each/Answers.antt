@@ -1,4 +1,4 @@
-use Rattle.std.proofs.Common.{◌+◌, ap, ◌∙◌, arith}
+use Rattle.std.proofs.Common.{ap, ◌∙◌, arith}
 use Rattle.tw_pending.specs.Order.{count}
 use Rattle.tw_pending.proofs.Counts.{step}
 use Rattle.tw_pending.proofs.calendar.put_each.Goals as goal

@@ -1,6 +1,5 @@
-use Rattle.std.proofs.Common.{◌++◌, drop, slice_get, ap, sym, ◌∙◌, subst, arith}
+use Rattle.std.proofs.Common.{◌++◌, ap, sym, ◌∙◌, arith}
 use Rattle.std.specs.BinaryHeap.{heap_items}
-use Rattle.tw_pending.specs.Order.{in_order}
 use Rattle.tw_pending.specs.Ring.{all_in, lists_of, waiting_in}
 use Rattle.tw_pending.proofs.Counts.{popped, without_first}
 use Rattle.tw_pending.proofs.Tops.{begun_rest, popped_all, skipped_first, top_at}

@@ -1,4 +1,4 @@
-use Rattle.std.proofs.Common.{[], length, set, ap, sym, ◌∙◌, arith}
+use Rattle.std.proofs.Common.{length, set, ap, sym, ◌∙◌, arith}
 use Rattle.tw_pending.specs.Order.{in_order}
 use Rattle.tw_pending.specs.Ring.{lists_of}
 use Rattle.tw_pending.proofs.Days.{day_is, lists_set, nil}

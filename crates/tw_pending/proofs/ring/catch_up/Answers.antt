@@ -1,4 +1,4 @@
-use Rattle.std.proofs.Common.{◌≤◌, inl, arith}
+use Rattle.std.proofs.Common.{inl, arith}
 use Rattle.tw_pending.specs.Ring.{lists_of}
 use Rattle.tw_pending.proofs.Days.{all-map}
 use Rattle.tw_pending.proofs.Rings.{idle_ring}

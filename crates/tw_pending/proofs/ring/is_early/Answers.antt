@@ -1,4 +1,4 @@
-use Rattle.std.proofs.Common.{length, inr, arith}
+use Rattle.std.proofs.Common.{inr, arith}
 use Rattle.std.specs.BinaryHeap.{heap_items}
 use Rattle.tw_pending.proofs.Tops.{due_heap, due_tick}
 use Rattle.tw_pending.proofs.ring.is_early.Goals as goal

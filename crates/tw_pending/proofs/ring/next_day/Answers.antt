@@ -1,4 +1,4 @@
-use Rattle.std.proofs.Common.{rules, ◌≡◌, ℕ, ◌+◌, ◌-◌, ◌<◌, ◌%◌, ◌++◌, [], length, set, refl, ap, sym, subst, arith}
+use Rattle.std.proofs.Common.{rules, ◌≡◌, ℕ, ◌+◌, ◌-◌, ◌<◌, ◌%◌, ◌++◌, [], length, set, refl, sym, subst, arith}
 use Rattle.tw_pending.specs.Order.{AreWith}
 use Rattle.tw_pending.specs.Ring.{AreBefore, IsBegun, IsRing, all_of, lists_of}
 use Rattle.tw_pending.specs.declared.ring.TheConstants.{DAYS}

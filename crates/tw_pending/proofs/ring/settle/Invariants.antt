@@ -1,4 +1,4 @@
-use Rattle.std.proofs.Common.{◌≡◌, ◌+◌, ◌-◌, ◌++◌, []}
+use Rattle.std.proofs.Common.{◌+◌, ◌-◌, ◌++◌, []}
 use Rattle.tw_pending.specs.Order.{AreWith}
 use Rattle.tw_pending.specs.Ring.{AreBefore, IsBegun, IsRing, all_of, lists_of}
 use Rattle.tw_pending.specs.declared.ring.TheConstants.{DAYS}

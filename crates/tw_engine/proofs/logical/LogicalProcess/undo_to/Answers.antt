@@ -1,22 +1,22 @@
-use Rattle.std.proofs.Common.{sym, ◌∙◌}
-use Rattle.tw_engine.specs.Process.{process_core}
-use Rattle.tw_engine.proofs.Undoing.{loop_step, shorter}
+use Rattle.std.proofs.Common.{◌≡◌, ℕ, max, OnOk, ap, ◌∙◌, subst}
+use Rattle.tw_core.specs.Steps.{after_undoing_while}
+use Rattle.tw_engine.specs.Process.{history, is_from, process_core}
+use Rattle.tw_engine.proofs.Comings.{on_err}
 use Rattle.tw_process.specs.Behaviour.{simulation_of}
 use Rattle.tw_engine.proofs.logical.LogicalProcess.undo_to.Goals as goal
 
-pub loop-self-preserved : goal.loop-self-preserved
-loop-self-preserved g c =
-    let sim = λ (model : g.row.M.Denot). simulation_of g.M.Event.Timed.parts g.M.Event.Ord.cmp (g.M.ProcessModel.behaviour model) in
-    record {
-      leads = λ stop.
-          loop_step sim c.args.time stop c.args.self.now c.loop-self.self c.undo_one.new.self c.loop-self.invariant.model c.loop-self.invariant.number (c.in_ok-undo_one.ensures.ok stop)
-          (sym c.has_from.ensures ∙ c.loop-self-test.true)
-          ∙ c.loop-self.invariant.leads stop;
-      model = c.undo_one.ensures.model ∙ c.loop-self.invariant.model;
-      number = c.undo_one.ensures.number ∙ c.loop-self.invariant.number;
-    }
+pub returns-clause-ok : goal.returns-clause-ok
+returns-clause-ok g c =
+    let o = c.args.self.now in
+    let m = simulation_of g.M.Event.Timed.parts g.M.Event.Ord.cmp (g.M.ProcessModel.behaviour c.args.self.now.model) in
+    subst (λ t. (stop : ℕ) → OnOk c.undo_all-2.result (process_core stop c.undo_all-2.new.self ≡ after_undoing_while m (is_from m t) o.number (history o) (process_core stop o)))
+    (c.max.ensures ∙ ap (λ p. max c.args.time p.bound) c.undo_all.view_is) c.undo_all-2.ensures.ok
 
-pub loop-self-smaller : goal.loop-self-smaller
-loop-self-smaller g c =
-    let m = simulation_of g.M.Event.Timed.parts g.M.Event.Ord.cmp (g.M.ProcessModel.behaviour c.loop-self.self.model) in
-    shorter m (process_core 0 c.loop-self.self) (process_core 0 c.undo_one.new.self) c.loop-self.self.number c.loop-self.self.history c.undo_one.new.self.history (c.in_ok-undo_one.ensures.ok 0)
+pub returns-clause-err : goal.returns-clause-err
+returns-clause-err g c = λ stop.
+    let o = c.args.self.now in
+    let u = c.undo_all-2.new.self in
+    let m = simulation_of g.M.Event.Timed.parts g.M.Event.Ord.cmp (g.M.ProcessModel.behaviour c.args.self.now.model) in
+    on_err c.undo_all-2.result
+    (subst (λ t. after_undoing_while m (is_from m t) o.number (history u) (process_core stop u) ≡ after_undoing_while m (is_from m t) o.number (history o) (process_core stop o))
+    (c.max.ensures ∙ ap (λ p. max c.args.time p.bound) c.undo_all.view_is) (c.undo_all-2.ensures.rest stop))

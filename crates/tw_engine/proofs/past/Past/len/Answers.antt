@@ -7,5 +7,5 @@ returns g c =
     let steps = c.self.inside.steps in
     let a = length-map (reverse steps.items) (λ d. d.event) in
     let b = length-reverse steps.items in
-    let is = ap (λ p. length p.history) c.self.view_is in
+    let is = ap (λ p. length p.ahead) c.self.view_is in
     omega (arith, steps.ok.0)

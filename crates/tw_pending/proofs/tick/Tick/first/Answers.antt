@@ -1,4 +1,4 @@
-use Rattle.std.proofs.Common.{slice_get, ap, sym, subst, ◌∙◌}
+use Rattle.std.proofs.Common.{subst}
 use Rattle.tw_pending.specs.Order.{IsInOrder}
 use Rattle.tw_pending.proofs.tick.Tick.first.Goals as goal
 

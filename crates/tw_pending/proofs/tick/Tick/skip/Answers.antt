@@ -1,4 +1,4 @@
-use Rattle.std.proofs.Common.{◌+◌, drop, ap, sym, subst, ◌∙◌}
+use Rattle.std.proofs.Common.{drop, ap, sym, subst, ◌∙◌}
 use Rattle.tw_pending.specs.Order.{IsInOrder}
 use Rattle.tw_pending.proofs.Counts.{drop_one, rest_rising}
 use Rattle.tw_pending.proofs.tick.Tick.skip.Goals as goal
