@@ -67,7 +67,11 @@ enum Tried<'a> {
 }
 
 /// Runs a case to the stop on one thread, or by several workers while these are faster.
-pub(crate) fn run_to_stop<'a, X: Threads + Wait + Sync + Clock + CpuClock, O: Progress + Stages + Gate + Sync>(
+pub(crate) fn run_to_stop<
+    'a,
+    X: Threads + Wait + Sync + Clock + CpuClock,
+    O: Progress + Stages + Gate + Sync,
+>(
     rt: &X,
     alloc: Global,
     case: &'a Case,
@@ -200,7 +204,11 @@ fn open_all<'a>(alloc: Global, run: TracedRun<'a>, asked: Asked) -> Result<Sim<'
 }
 
 /// Workers go on to the stop, or to where one thread is faster.
-fn go_on_by_all<'a, X: Threads + Wait + Sync + Clock + CpuClock, O: Progress + Stages + Gate + Sync>(
+fn go_on_by_all<
+    'a,
+    X: Threads + Wait + Sync + Clock + CpuClock,
+    O: Progress + Stages + Gate + Sync,
+>(
     rt: &X,
     alloc: Global,
     sim: Sim<'a>,

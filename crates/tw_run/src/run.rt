@@ -68,7 +68,11 @@ pub fn run_io<
     ended
 }
 
-fn answer_text<X: Threads + Wait + Sync + Clock + CpuClock, W: Sink, O: Progress + Stages + Gate + Sync>(
+fn answer_text<
+    X: Threads + Wait + Sync + Clock + CpuClock,
+    W: Sink,
+    O: Progress + Stages + Gate + Sync,
+>(
     rt: &X,
     alloc: Global,
     text: &[u8],
@@ -89,7 +93,11 @@ fn answer_text<X: Threads + Wait + Sync + Clock + CpuClock, W: Sink, O: Progress
 }
 
 /// Runs a case and writes the report.
-fn answer_case<X: Threads + Wait + Sync + Clock + CpuClock, W: Sink, O: Progress + Stages + Gate + Sync>(
+fn answer_case<
+    X: Threads + Wait + Sync + Clock + CpuClock,
+    W: Sink,
+    O: Progress + Stages + Gate + Sync,
+>(
     rt: &X,
     alloc: Global,
     case: &Case,
