@@ -7,9 +7,9 @@ ghost use Rattle.std.specs.Prelude.{◌≡◌, ◌≤◌, ◌<◌, IfSome, None}
 /// More workers than so many are not tried: the tables of bench/ have none that gains by more.
 pub const MOST_WORKERS_CHOSEN: u32 = 4;
 
-/// For so long a run goes on by one thread before several are tried. A trial costs about as much, so shorter runs never
-/// pay for one.
-const BEGINNING: u64 = 4_000;
+/// For so long a run goes on by one thread before several are tried. In that time it comes out whether other work takes the
+/// processors, and a run that several make faster loses a few milliseconds.
+const BEGINNING: u64 = 20_000;
 
 /// A lap of one thread that takes less is followed by one of twice the ticks, so that a run begins with some dozen laps,
 /// whatever happens in a tick. The clock is read once a lap.

@@ -2,10 +2,10 @@
 
 use crate::pace::{Alone, Course};
 
-/// A run of eight laps of 80 ticks, each of which took 500 microseconds.
+/// A run of forty laps of 80 ticks, each of which took 500 microseconds.
 fn steady() -> Alone {
     let mut alone = Alone::new();
-    for lap in 1_u64..9 {
+    for lap in 1_u64..41 {
         alone = alone.lap(80 * lap, 500, 0);
     }
     alone
@@ -13,7 +13,7 @@ fn steady() -> Alone {
 
 /// Workers have taken it over, 200 events to a tick; to begin took 900 microseconds, 300 of them for the threads.
 fn opened() -> Course {
-    Course::new(steady(), 128_000, 900, 300)
+    Course::new(steady(), 640_000, 900, 300)
 }
 
 #[test]
@@ -23,81 +23,78 @@ fn a_run_with_few_events_stays_on_one_thread(rt: HostRuntime) {
     assert!(rt; alone.next_end(10) == 10);
     assert!(rt; !alone.is_trial_due(1_000_000_000));
     // Some 19,994 microseconds are left, and then 20,000.
-    assert!(rt; !steady().is_trial_due(640 + 3_199));
-    assert!(rt; steady().is_trial_due(640 + 3_200));
+    assert!(rt; !steady().is_trial_due(3_200 + 3_199));
+    assert!(rt; steady().is_trial_due(3_200 + 3_200));
 }
 
 /// Their first four stretches, which took 2,600 microseconds; one thread takes 100, 200, 400 and 800.
 fn tried() -> Course {
     opened()
-        .stretch(656, 131_200, 400)
-        .stretch(688, 137_600, 500)
-        .stretch(752, 150_400, 700)
-        .stretch(880, 176_000, 1_000)
+        .stretch(3_216, 643_200, 400)
+        .stretch(3_248, 649_600, 500)
+        .stretch(3_312, 662_400, 700)
+        .stretch(3_440, 688_000, 1_000)
 }
 
 /// They have won their trial, in 4,400 microseconds, 1,500 of them for threads; one thread takes 3,100.
 fn won() -> Course {
-    tried().stretch(1_136, 227_200, 1_800)
+    tried().stretch(3_696, 739_200, 1_800)
 }
 
 #[test]
 fn several_go_on_where_the_trial_took_a_twentieth_less(rt: HostRuntime) {
-    assert!(rt; opened().next_end(1_000) == Some(656));
-    assert!(rt; tried().next_end(10_000) == Some(1_136));
+    assert!(rt; opened().next_end(10_000) == Some(3_216));
+    assert!(rt; tried().next_end(10_000) == Some(3_696));
     assert!(rt; !tried().is_over());
     // A twentieth less than 3,100 are 2,945, and 1,500 more start the threads of five stretches.
-    assert!(rt; !tried().stretch(1_136, 227_200, 1_844).is_over());
-    assert!(rt; tried().stretch(1_136, 227_200, 1_845).is_over());
+    assert!(rt; !tried().stretch(3_696, 739_200, 1_844).is_over());
+    assert!(rt; tried().stretch(3_696, 739_200, 1_845).is_over());
 }
 
 #[test]
 fn a_stretch_in_which_nothing_happens_tells_nothing(rt: HostRuntime) {
-    let idle = opened().stretch(656, 128_000, 300);
+    let idle = opened().stretch(3_216, 640_000, 300);
     assert!(rt; !idle.is_over());
-    assert!(rt; idle.next_end(1_000) == Some(688));
+    assert!(rt; idle.next_end(10_000) == Some(3_248));
 }
 
 #[test]
 fn beside_other_work_a_trial_ends_with_a_stretch(rt: HostRuntime) {
     // One thread takes 100 microseconds; other work, some 3,000 and more.
-    assert!(rt; !opened().stretch(656, 131_200, 3_100).is_over());
-    let lost = opened().stretch(656, 131_200, 3_101);
+    assert!(rt; !opened().stretch(3_216, 643_200, 3_100).is_over());
+    let lost = opened().stretch(3_216, 643_200, 3_101);
     assert!(rt; lost.is_over());
     // It lost 3,001 microseconds, 900 to begin and 99 to end: 80,000 is twenty times as much.
     let alone = lost.go_on_alone(99);
-    assert!(rt; !alone.lap(672, 79_999, 0).is_trial_due(1_000_000));
-    assert!(rt; alone.lap(672, 80_000, 0).is_trial_due(1_000_000));
+    assert!(rt; !alone.lap(3_232, 79_999, 0).is_trial_due(1_000_000));
+    assert!(rt; alone.lap(3_232, 80_000, 0).is_trial_due(1_000_000));
     // Two stretches take one thread 300 microseconds.
-    let late = opened().stretch(656, 131_200, 2_000);
-    assert!(rt; !late.stretch(688, 137_600, 1_300).is_over());
-    assert!(rt; late.stretch(688, 137_600, 1_301).is_over());
+    let late = opened().stretch(3_216, 643_200, 2_000);
+    assert!(rt; !late.stretch(3_248, 649_600, 1_300).is_over());
+    assert!(rt; late.stretch(3_248, 649_600, 1_301).is_over());
 }
 
 #[test]
 fn beside_other_work_there_is_no_trial(rt: HostRuntime) {
-    assert!(rt; !Course::new(steady(), 128_000, 3_600, 3_000).is_over());
-    let busy = Course::new(steady(), 128_000, 3_600, 3_001);
+    assert!(rt; !Course::new(steady(), 640_000, 3_600, 3_000).is_over());
+    let busy = Course::new(steady(), 640_000, 3_600, 3_001);
     assert!(rt; busy.is_over());
     // It is patient for 72 milliseconds: twenty times what was lost.
     let alone = busy.go_on_alone(0);
-    assert!(rt; !alone.lap(656, 71_999, 0).is_trial_due(1_000_000));
-    assert!(rt; alone.lap(656, 72_000, 0).is_trial_due(1_000_000));
+    assert!(rt; !alone.lap(3_216, 71_999, 0).is_trial_due(1_000_000));
+    assert!(rt; alone.lap(3_216, 72_000, 0).is_trial_due(1_000_000));
 }
 
 #[test]
 fn one_thread_that_waits_for_its_processor_goes_on_alone(rt: HostRuntime) {
-    // 4,000 microseconds, and 1,000: a tenth is 500.
-    assert!(rt; steady().lap(720, 1_000, 500).is_trial_due(1_000_000));
-    assert!(rt; !steady().lap(720, 1_000, 501).is_trial_due(1_000_000));
-    // 7,000, of which it waited for 3,000.
-    let hindered = steady().lap(720, 3_000, 3_000);
+    // 24,000 microseconds count half, and so does what it waited for: a tenth of 12,000 is 1,200.
+    assert!(rt; steady().lap(3_280, 4_000, 2_400).is_trial_due(1_000_000));
+    assert!(rt; !steady().lap(3_280, 4_000, 2_402).is_trial_due(1_000_000));
+    // It waited for 2,000 of 12,000: a tenth of 20,000.
+    let hindered = steady().lap(3_280, 4_000, 4_000);
     assert!(rt; !hindered.is_trial_due(1_000_000));
-    // 20,001 count half, as what it waited for does: 1,500 of 10,000, and with 5,000 more a tenth.
-    let later = hindered.lap(2_320, 13_001, 0);
-    assert!(rt; !later.is_trial_due(1_000_000));
-    assert!(rt; !later.lap(2_720, 4_999, 0).is_trial_due(1_000_000));
-    assert!(rt; later.lap(2_720, 5_000, 0).is_trial_due(1_000_000));
+    assert!(rt; !hindered.lap(4_560, 7_999, 0).is_trial_due(1_000_000));
+    assert!(rt; hindered.lap(4_560, 8_000, 0).is_trial_due(1_000_000));
 }
 
 #[test]
@@ -115,20 +112,20 @@ fn a_clock_that_stands_still_or_goes_back_leaves_one_thread(rt: HostRuntime) {
 
 #[test]
 fn a_phase_that_workers_lose_ends_their_run(rt: HostRuntime) {
-    assert!(rt; won().next_end(1_000_000) == Some(1_648));
+    assert!(rt; won().next_end(1_000_000) == Some(4_208));
     // 512 ticks take one thread 3,200 microseconds, and them as long.
-    let even = won().stretch(1_648, 329_600, 3_200);
+    let even = won().stretch(4_208, 841_600, 3_200);
     assert!(rt; !even.is_over());
-    let lost = even.stretch(2_672, 534_400, 56_400);
+    let lost = even.stretch(5_232, 1_046_400, 56_400);
     assert!(rt; lost.is_over());
     // A stretch that took long is followed by one of as many ticks.
-    assert!(rt; lost.next_end(1_000_000) == Some(3_696));
-    assert!(rt; lost.next_end(3_000) == Some(3_000));
-    assert!(rt; lost.next_end(2_672).is_none());
+    assert!(rt; lost.next_end(1_000_000) == Some(6_256));
+    assert!(rt; lost.next_end(6_000) == Some(6_000));
+    assert!(rt; lost.next_end(5_232).is_none());
     // The stretch lost 50 milliseconds, besides what it took to begin and to end.
     let alone = lost.go_on_alone(100);
-    assert!(rt; !alone.lap(2_688, 1_019_999, 0).is_trial_due(1_000_000));
-    assert!(rt; alone.lap(2_688, 1_020_000, 0).is_trial_due(1_000_000));
+    assert!(rt; !alone.lap(5_248, 1_019_999, 0).is_trial_due(1_000_000));
+    assert!(rt; alone.lap(5_248, 1_020_000, 0).is_trial_due(1_000_000));
 }
 
 #[test]
@@ -138,7 +135,7 @@ fn one_thread_is_tried_again_now_and_then(rt: HostRuntime) {
     assert!(rt; long.is_over());
     assert!(rt;
         long.go_on_alone(0)
-            .lap(500_100, 4_000, 0)
+            .lap(500_100, 20_000, 0)
             .is_trial_due(10_000_000)
     );
 }
