@@ -137,7 +137,7 @@ FOR_RUN = [
         "--stop 1000000",
         {"n": 60, "scenario": 100, "delay": 1000, "gap": 100000},
     ),
-    Workload("dense", "dense", "--stop 600000", {"n": 1024, "scenario": 200}),
+    Workload("dense", "dense", "--stop 10000000", {"n": 1024, "scenario": 200}),
 ]
 
 # How time and memory grow with the run, and with what is asked of it.

@@ -9,4 +9,4 @@ mod pace;
 #[cfg(test)]
 mod rows;
 
-pub use pace::{Alone, Course, MOST_WORKERS_CHOSEN};
+pub use pace::{Alone, Course, MOST_WORKERS_CHOSEN, have_processors};

@@ -32,6 +32,15 @@ const ENOUGH: u64 = 20_000;
 /// more than one thread takes, up to its last stretch.
 const LONG_WAIT: u64 = 3_000;
 
+/// Before several are tried, one thread goes on for about so long beside threads that are not done before it: two slices of
+/// a scheduler, so that other work has come to each processor that it takes.
+const SOUNDING: u64 = 6_000;
+
+/// The machine has a processor for each of several threads where they miss no more of their time than one in so many
+/// parts. Beside four that never rest four miss half of it, and beside one an eighth; starting them takes less than a
+/// hundredth.
+const PARTS_FOR_ONE_MISSED: u64 = 16;
+
 /// Several are first tried on what takes one thread so long: some ten times what it takes to start a thread, and long
 /// enough for a clock to tell a twentieth.
 const TRIAL: u64 = 3_000;
@@ -74,23 +83,23 @@ struct Piece {
 
 /// How long a thread went on, and how long of that it waited for a processor.
 #[derive(Clone, Copy, PartialEq, Eq, Debug)]
-struct Share {
+struct Stint {
     micros: u64,
     waited: u64,
 }
 
-impl Share {
-    const NONE: Share = Share {
+impl Stint {
+    const NONE: Stint = Stint {
         micros: 0,
         waited: 0,
     };
 
     /// With what came later; once that is long, both count half.
-    fn and(self, later: Share) -> Share {
+    fn and(self, later: Stint) -> Stint {
         let micros = self.micros.saturating_add(later.micros);
         let waited = self.waited.saturating_add(later.waited);
         let part = if micros > LATELY { 2 } else { 1 };
-        Share {
+        Stint {
             micros: micros / part,
             waited: waited / part,
         }
@@ -112,7 +121,7 @@ pub struct Alone {
     // In all laps since then.
     micros: u64,
     last: Piece,
-    lately: Share,
+    lately: Stint,
     // So long it goes on before several are tried.
     patience: u64,
 }
@@ -130,7 +139,7 @@ impl Alone {
                 ticks: 1,
                 micros: 0,
             },
-            lately: Share::NONE,
+            lately: Stint::NONE,
             patience: BEGINNING,
         }
     }
@@ -160,7 +169,30 @@ impl Alone {
                 ticks: end.saturating_sub(self.ticks),
                 micros,
             },
-            lately: self.lately.and(Share { micros, waited }),
+            lately: self.lately.and(Stint { micros, waited }),
+            ..self
+        }
+    }
+
+    /// Where the lap ends that it takes beside threads that are not done before it: behind where the run is, and not past
+    /// the stop.
+    pub fn sounding_end(self, stop: u64) -> u64
+        requires { self.ticks < stop }
+        ensures after { self.ticks < result }
+        ensures within { result ≤ stop }
+    {
+        let length = in_proportion(SOUNDING, self.last.ticks, self.last.micros);
+        end_within(self.ticks, length, stop)
+    }
+
+    /// In that lap there was no processor for each of them: it is patient for as long as makes that lap a small part.
+    pub fn hindered(self) -> Alone
+        ensures { result.ticks ≡ self.ticks }
+    {
+        Alone {
+            patience: self
+                .micros
+                .saturating_add(SOUNDING.saturating_mul(PATIENCE)),
             ..self
         }
     }
@@ -312,10 +344,20 @@ impl Course {
             before: self.events,
             micros: 0,
             last: self.lap,
-            lately: Share::NONE,
+            lately: Stint::NONE,
             patience: lost.saturating_mul(PATIENCE).max(BEGINNING),
         }
     }
+}
+
+/// Whether the machine has a processor for each of so many threads that never rested for so long, in microseconds: they had
+/// processors for so long in all.
+pub fn have_processors(threads: u32, micros: u64, worked: u64) -> bool {
+    let wanted = micros.saturating_mul(u64::from(threads));
+    wanted
+        .saturating_sub(worked)
+        .saturating_mul(PARTS_FOR_ONE_MISSED)
+        <= wanted
 }
 
 /// So many ticks behind a time, one at least, but not past the stop, which is behind it.

@@ -1,6 +1,6 @@
 //! The policy, by figures.
 
-use crate::pace::{Alone, Course};
+use crate::pace::{Alone, Course, have_processors};
 
 /// A run of forty laps of 80 ticks, each of which took 500 microseconds.
 fn steady() -> Alone {
@@ -95,6 +95,28 @@ fn one_thread_that_waits_for_its_processor_goes_on_alone(rt: HostRuntime) {
     assert!(rt; !hindered.is_trial_due(1_000_000));
     assert!(rt; !hindered.lap(4_560, 7_999, 0).is_trial_due(1_000_000));
     assert!(rt; hindered.lap(4_560, 8_000, 0).is_trial_due(1_000_000));
+}
+
+#[test]
+fn several_threads_have_processors_where_they_miss_little(rt: HostRuntime) {
+    assert!(rt; have_processors(4, 6_000, 24_000));
+    // A sixteenth of 24,000 is 1,500.
+    assert!(rt; have_processors(4, 6_000, 22_500));
+    assert!(rt; !have_processors(4, 6_000, 22_499));
+    // Beside one that never rests; and beside four, or on two processors.
+    assert!(rt; !have_processors(4, 6_000, 21_000));
+    assert!(rt; !have_processors(4, 6_000, 12_000));
+}
+
+#[test]
+fn a_lap_beside_other_threads_takes_some_milliseconds(rt: HostRuntime) {
+    // 80 ticks took 500 microseconds, so that 960 take 6,000.
+    assert!(rt; steady().sounding_end(10_000) == 4_160);
+    assert!(rt; steady().sounding_end(4_000) == 4_000);
+    // It is patient for twenty times as long.
+    let hindered = steady().hindered();
+    assert!(rt; !hindered.lap(3_216, 119_999, 0).is_trial_due(1_000_000));
+    assert!(rt; hindered.lap(3_216, 120_000, 0).is_trial_due(1_000_000));
 }
 
 #[test]

@@ -4,17 +4,19 @@ ghost use Rattle.std.specs.Prelude.{◌≡◌, ◌≤◌, ◌<◌, ℕ, false, I
 ghost use Rattle.tw_handlers.specs.Calls.{counter_full};
 ghost use Rattle.tw_model.specs.declared.limits.TheConstants.{LATEST};
 ghost use Rattle.tw_model.specs.declared.memory.OrMemory.TheVariants as or_memory;
+ghost use Rattle.tw_pace.specs.declared.pace.TheConstants.{MOST_WORKERS_CHOSEN};
 ghost use Rattle.tw_run.specs.Asked.{IsReady};
 ghost use Rattle.tw_run.specs.Ran.{HasComeTo, IsComeTo, IsTried};
 ghost use Rattle.tw_seq.specs.Run.{GetsStuck, complete_run};
 
 use crate::dealing::owners;
+use crate::laps::{go_on_to, micros};
 use crate::segments::{handled_by, run_to};
+use crate::sounding::{Sounded, sound};
 use std::alloc::Global;
-use std::io;
 use std::sync::Wait;
 use std::thread::Threads;
-use std::time::{Clock, CpuClock, Duration};
+use std::time::{Clock, CpuClock};
 use tw_commands::{Progress, Stages};
 use tw_instance::Case;
 use tw_model::OrMemory;
@@ -93,7 +95,7 @@ pub(crate) fn run_to_stop<
     while alone.ticks < asked.report.stop {
         alone = go_on_alone(rt, &mut run, asked.report.stop, alone, &mut teller)?;
         if alone.ticks < asked.report.stop {
-            match try_all(rt, alloc, run, asked, alone, &mut teller) {
+            match try_where_free(rt, alloc, run, asked, alone, &mut teller)? {
                 Tried::Come(sim) => return Ok(Come::ByAll(sim)),
                 Tried::Over(later, from) => {
                     run = later;
@@ -135,24 +137,35 @@ fn go_on_alone<X: Clock + CpuClock, O: Progress + Stages>(
     Ok(now)
 }
 
-/// A run goes on by one thread to a time, in ticks.
-fn go_on_to<X: Clock + CpuClock>(
-    clock: &X,
-    run: &mut TracedRun<'_>,
-    end: u64,
+/// A run goes on by one thread for some milliseconds, and then by several workers where the machine has a processor for
+/// each.
+fn try_where_free<
+    'a,
+    X: Threads + Wait + Sync + Clock + CpuClock,
+    O: Progress + Stages + Gate + Sync,
+>(
+    rt: &X,
+    alloc: Global,
+    run: TracedRun<'a>,
+    asked: Asked,
     alone: Alone,
-) -> Result<Alone, OrMemory<CounterFull>>
-    requires begun { run.old.run.stop ≤ end }
-    requires latest { end ≤ LATEST }
-    ensures run { IfOk result (λ _. run.new.run ≡ complete_run run.old.run.case end) }
-    ensures ticks { IfOk result (λ later. later.ticks ≡ end) }
-    ensures full { (stop : ℕ) → end ≤ stop → IsErrOf result (or_memory.Fault counter_full) → GetsStuck run.old.run.case stop }
+    teller: &mut Teller<'_, O>,
+) -> Result<Tried<'a>, OrMemory<CounterFull>>
+    requires ready { IsReady asked }
+    requires log { asked.report.log ≡ false }
+    requires complete { run.run ≡ complete_run run.run.case alone.ticks }
+    requires before { alone.ticks < asked.report.stop }
+    ensures ok { IfOk result (λ tried. IsTried run.entry.run.case asked alone.ticks tried) }
+    ensures full { IsErrOf result (or_memory.Fault counter_full) → GetsStuck run.entry.run.case asked.report.stop }
 {
-    let (start, used) = (micros(clock), processor_micros(clock));
-    run.run_to(end)?;
-    let took = micros(clock).saturating_sub(start);
-    let worked = processor_micros(clock).saturating_sub(used);
-    Ok(alone.lap(end, took, took.saturating_sub(worked)))
+    let threads = workers_for(run.run().case().instance().nodes());
+    let end = alone.sounding_end(asked.report.stop);
+    let Sounded { run, came, is_free } = sound(rt, run, end, alone, threads);
+    let alone = came?;
+    if !is_free || alone.ticks >= asked.report.stop {
+        return Ok(Tried::Over(run, alone.hindered()));
+    }
+    Ok(try_all(rt, alloc, run, asked, alone, teller))
 }
 
 /// Several workers take over a run that one thread has brought so far. They go on to the stop, or to where one thread is
@@ -193,7 +206,7 @@ fn open_all<'a>(alloc: Global, run: TracedRun<'a>, asked: Asked) -> Result<Sim<'
     ensures err { IfErr result (λ same. same ≡ run.entry) }
 {
     let nodes = run.run().case().instance().nodes();
-    let workers = nodes.clamp(1, MOST_WORKERS_CHOSEN);
+    let workers = workers_for(nodes);
     let Ok(owners) = owners(alloc, asked, workers, nodes, 0) else {
         return Err(run);
     };
@@ -201,6 +214,14 @@ fn open_all<'a>(alloc: Global, run: TracedRun<'a>, asked: Asked) -> Result<Sim<'
         Ok(sim) => Ok(sim),
         Err(still) => Err(still.run),
     }
+}
+
+/// How many workers are tried where there are so many routers.
+fn workers_for(nodes: u32) -> u32
+    ensures some { 0 < result }
+    ensures few { result ≤ MOST_WORKERS_CHOSEN }
+{
+    nodes.clamp(1, MOST_WORKERS_CHOSEN)
 }
 
 /// Workers go on to the stop, or to where one thread is faster.
@@ -265,22 +286,4 @@ fn go_on<'a, X: Threads + Wait + Sync + Clock + CpuClock, O: Stages + Gate + Syn
         return None;
     };
     Some((sim, micros(rt).saturating_sub(start)))
-}
-
-/// What a clock shows, in microseconds.
-fn micros(clock: &impl Clock) -> u64 {
-    shown(clock.monotonic())
-}
-
-/// How long this process has had processors so far, in microseconds.
-fn processor_micros(clock: &impl CpuClock) -> u64 {
-    shown(clock.process_cpu_time())
-}
-
-/// The time that a clock shows, in microseconds; a clock that cannot be read stands still.
-fn shown(time: io::Result<Duration>) -> u64 {
-    match time {
-        Ok(time) => u64::try_from(time.as_micros()).unwrap_or(u64::MAX),
-        Err(_) => 0,
-    }
 }

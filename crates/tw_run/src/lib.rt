@@ -12,9 +12,11 @@
 mod cause;
 mod chosen;
 mod dealing;
+mod laps;
 mod ran;
 mod run;
 mod segments;
+mod sounding;
 
 pub use run::run_io;
 pub use tw_commands::{Cause, Stages, Status};

@@ -3,7 +3,7 @@ use Rattle.std.proofs.lemmas.Result.{err_from_is_err_and}
 use Rattle.tw_handlers.specs.Calls.{counter_full}
 use Rattle.tw_model.specs.declared.memory.OrMemory.TheVariants.{Fault}
 use Rattle.tw_seq.proofs.Checkpoints.{stuck_later}
-use Rattle.tw_run.proofs.chosen.go_on_to.Goals as goal
+use Rattle.tw_run.proofs.laps.go_on_to.Goals as goal
 
 pub returns-in_err-run_to-clause-full : goal.returns-in_err-run_to-clause-full
 returns-in_err-run_to-clause-full g c =
