@@ -1,0 +1,11 @@
+//! The limits of a round.
+
+/// How many events a process handles in one round at most.
+pub(crate) const MOST_EVENTS: u64 = 1 << 32;
+
+/// How many events all processes handled in the round before, at least, where the next one is done by several threads:
+/// to start and join them takes as long as some of them.
+pub(crate) const WORTH_THREADS: u64 = 1000;
+
+/// The window of optimism at most, in ticks.
+pub(crate) const MOST_WINDOW: u64 = 1 << 62;
