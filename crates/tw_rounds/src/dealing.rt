@@ -1,7 +1,7 @@
 //! What processes have sent is taken out of them, and dealt out to their receivers. The rule holds all along, whatever
 //! the model, the stop and the bound to which it holds.
 
-ghost use Rattle.std.specs.Prelude.{ℕ, ◌+◌, ◌≡◌, ◌<◌, ◌≤◌, Some, IsErrOf, length, slice_get};
+ghost use Rattle.std.specs.Prelude.{ℕ, ◌+◌, ◌^◌, ◌≡◌, ◌<◌, ◌≤◌, Some, IsErrOf, length, slice_get};
 ghost use Rattle.tw_process.specs.Behaviour.{simulation_of};
 ghost use Rattle.tw_process.specs.declared.refused.Refused.TheVariants.{CounterFull};
 ghost use Rattle.tw_rounds.specs.Members.{place_of};
@@ -20,7 +20,8 @@ pub(crate) fn tell_all<M: ProcessModel>(
     members: &mut [Member<'_, M>],
     bound: u64,
 ) -> Result<(), Refused>
-    requires { (model : M) × (stop : ℕ) × (flight : _) × (bound < (M.behaviour model).latest) × (bound < stop)
+    requires fits { bound + 1 < 2 ^ 64 }
+    requires ruled { (model : M) × (stop : ℕ) × (flight : _) × (bound < (M.behaviour model).latest) × (bound < stop)
         × AreRuled (simulation_of M.Event.parts M.Event.cmp (M.behaviour model)) model stop bound flight members.old }
     ensures ruled { (model : M) (stop : ℕ) (flight : _) → let m = simulation_of M.Event.parts M.Event.cmp (M.behaviour model) in
         bound < stop → AreRuled m model stop bound flight members.old → AreRuled m model stop bound flight members.new }
@@ -40,6 +41,7 @@ fn tell_at<M: ProcessModel>(
     bound: u64,
 ) -> Result<(), Refused>
     requires here { number < length members.old }
+    requires fits { bound + 1 < 2 ^ 64 }
     requires ruled { (model : M) × (stop : ℕ) × (flight : _) × (bound < (M.behaviour model).latest) × (bound < stop)
         × AreRuled (simulation_of M.Event.parts M.Event.cmp (M.behaviour model)) model stop bound flight members.old }
     ensures ruled { (model : M) (stop : ℕ) (flight : _) → let m = simulation_of M.Event.parts M.Event.cmp (M.behaviour model) in

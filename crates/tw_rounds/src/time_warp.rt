@@ -133,7 +133,7 @@ impl<'a, M: ProcessModel> TimeWarp<'a, M> {
         requires { self.old.bound < self.old.stop }
         ensures same { IsSameRun self.old self.new }
         ensures rises { self.old.bound ≤ self.new.bound }
-        ensures full { IsErrOf result CounterFull → IsStuck (simulation_of M.Event.parts M.Event.cmp (M.behaviour self.old.model)) self.new }
+        ensures full { IsErrOf result CounterFull → IsStuck (simulation_of M.Event.parts M.Event.cmp (M.behaviour self.new.model)) self.new }
     {
         self.tell()?;
         if self.send().is_err() {
@@ -152,7 +152,7 @@ impl<'a, M: ProcessModel> TimeWarp<'a, M> {
         requires { self.old.bound < self.old.stop }
         ensures same { IsSameRun self.old self.new }
         ensures bound { self.new.bound ≡ self.old.bound }
-        ensures full { IsErrOf result CounterFull → IsStuck (simulation_of M.Event.parts M.Event.cmp (M.behaviour self.old.model)) self.new }
+        ensures full { IsErrOf result CounterFull → IsStuck (simulation_of M.Event.parts M.Event.cmp (M.behaviour self.new.model)) self.new }
     {
         tell_all(&mut self.members, self.bound)
     }
@@ -237,8 +237,8 @@ where
         requires { self.old.bound < self.old.stop }
         ensures same { IsSameRun self.old self.new }
         ensures rises { self.old.bound ≤ self.new.bound }
-        ensures right { IsRight (simulation_of M.Event.parts M.Event.cmp (M.behaviour self.old.model)) self.new }
-        ensures full { IsErrOf result CounterFull → IsStuck (simulation_of M.Event.parts M.Event.cmp (M.behaviour self.old.model)) self.new }
+        ensures right { IsRight (simulation_of M.Event.parts M.Event.cmp (M.behaviour self.new.model)) self.new }
+        ensures full { IsErrOf result CounterFull → IsStuck (simulation_of M.Event.parts M.Event.cmp (M.behaviour self.new.model)) self.new }
     {
         self.turn(rt, workers);
         let met = self.meet();
