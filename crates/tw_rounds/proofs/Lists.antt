@@ -1,6 +1,15 @@
 -- Lists by index (own).
-use Rattle.std.proofs.Common.{◌≡◌, ℕ, zero, suc, ◌+◌, ◌-◌, ◌<◌, ◌≤◌, List, [], ◌∷◌, ◌++◌, Some, length, map, remove, set, None, slice_get, refl, ap, sym, ◌∙◌, subst, take, arith}
+use Rattle.std.proofs.Common.{◌≡◌, ℕ, zero, suc, ◌+◌, ◌-◌, ◌<◌, ◌≤◌, List, [], ◌∷◌, ◌++◌, Some, length, map, remove, set, None, slice_get, refl, ap, sym, ◌∙◌, subst, take, Result, Ok, Err, OnErr, OnOk, ◌⊎◌, inl, inr, arith}
 use Rattle.std.specs.List.{AllByRecursion}
+
+-- what an answer tells, told in other words
+pub on_ok : {T F A B : Type 0} (r : Result T F) → (A → B) → OnOk r A → OnOk r B
+on_ok (Ok u) f h = f h
+on_ok (Err u) f h = tt
+
+pub on_err : {T F A B : Type 0} (r : Result T F) → (A → B) → OnErr r A → OnErr r B
+on_err (Ok u) f h = tt
+on_err (Err u) f h = f h
 
 module _ {X : Type 0} where
   -- what is within a list's length is there
@@ -23,6 +32,11 @@ module _ {X : Type 0} where
   set_each P (x ∷ xs) (suc i) y new old zero z h = old zero z h
   set_each P (x ∷ xs) (suc i) y new old (suc j) z h = set_each (λ k. P (suc k)) xs i y new (λ k w g. old (suc k) w g) j z h
 
+  pub get_set : (xs : List X) (i : ℕ) (x y : X) → slice_get xs i ≡ Some x → slice_get (set xs i y) i ≡ Some y
+  get_set [] i x y h = cc
+  get_set (z ∷ xs) zero x y h = refl
+  get_set (z ∷ xs) (suc i) x y h = get_set xs i x y h
+
   pub map_set : {Y : Type 0} (f : X → Y) (xs : List X) (i : ℕ) (y : X) → set (map f xs) i (f y) ≡ map f (set xs i y)
   map_set f [] i y = refl
   map_set f (x ∷ xs) zero y = refl
@@ -32,6 +46,21 @@ module _ {X : Type 0} where
   map_get f [] i y h = cc
   map_get f (x ∷ xs) zero y h = (x, refl, cc)
   map_get f (x ∷ xs) (suc i) y h = map_get f xs i y h
+
+  -- what stands in a list with one more behind stood there, or is that one
+  pub get_snoc : (xs : List X) (y : X) (i : ℕ) (z : X) → slice_get (xs ++ y ∷ []) i ≡ Some z → (slice_get xs i ≡ Some z) ⊎ ((i ≡ length xs) × (z ≡ y))
+  get_snoc [] y zero z h = (let same : z ≡ y = cc in inr (refl, same))
+  get_snoc [] y (suc i) z h = cc
+  get_snoc (x ∷ xs) y zero z h = inl h
+  get_snoc (x ∷ xs) y (suc i) z h = elim (get_snoc xs y i z h) [ inl k ↦ inl k | inr k ↦ inr (ap suc k.0, k.1) ]
+
+  take_front : (xs ys : List X) → take (length xs) (xs ++ ys) ≡ xs
+  take_front [] ys = refl
+  take_front (x ∷ xs) ys = ap (λ zs. x ∷ zs) (take_front xs ys)
+
+  -- a list whose every element was written
+  pub rewritten : (n : ℕ) (xs ys : List X) → length xs ≡ n → take n (xs ++ ys) ≡ xs
+  rewritten n xs ys h = subst (λ k. take k (xs ++ ys) ≡ xs) h (take_front xs ys)
 
   -- nothing is beyond it
   pub beyond : {Y : Type 0} (f : X → Y) (xs : List X) (i : ℕ) → length xs ≤ i → slice_get (map f xs) i ≡ None

@@ -1,15 +1,15 @@
 -- The rule over all processes, from one stage of a round to the next.
-use Rattle.std.proofs.Common.{◌≡◌, ℕ, ◌+◌, ◌<◌, ◌≤◌, ◌==◌, true, List, [], ◌∷◌, ◌++◌, Some, length, map, max, set, slice_get, refl, ap, sym, ◌∙◌, subst, inl, inr, arith}
+use Rattle.std.proofs.Common.{◌≡◌, ℕ, ◌+◌, ◌<◌, ◌≤◌, ◌==◌, true, List, [], ◌∷◌, ◌++◌, Some, Result, Ok, Err, OnErr, OnOk, length, map, max, set, slice_get, refl, ap, sym, ◌∙◌, subst, inl, inr, arith}
 use Rattle.std.proofs.lemmas.Bool.{cases_Bool, eq-eqb}
 use Rattle.std.proofs.lemmas.List.{length-map, length-set}
 use Rattle.tw_core.proofs.Counts.{antimessages-append, messages-append}
 use Rattle.tw_core.specs.Machine.{antimessages, messages}
 use Rattle.tw_engine.specs.Process.{Logical}
-use Rattle.tw_rounds.proofs.Lists.{map_get, map_set, set_each, there_at, within}
-use Rattle.tw_rounds.proofs.Members.{earliest-le, earliest-there}
+use Rattle.tw_rounds.proofs.Lists.{get_set, map_get, map_set, set_each, there_at, within}
+use Rattle.tw_rounds.proofs.Members.{earliest-le, earliest-there, keeps_same}
 use Rattle.tw_rounds.proofs.Rules.{all_turn, among_self, known_stands, knowing, loose_from, may_hand, may_send, rule_raised, self}
-use Rattle.tw_rounds.specs.Members.{IsSound, Keeps, Mailed, place_of, raised, taken_out}
-use Rattle.tw_rounds.specs.Ruled.{AreRuled, board_of}
+use Rattle.tw_rounds.specs.Members.{IsFullBefore, IsSound, Keeps, KeepsTo, Mailed, place_of, raised, taken_out}
+use Rattle.tw_rounds.specs.Ruled.{AreRuled, IsSomeFullBefore, board_of}
 use Rattle.tw_rounds.specs.Times.{earliest}
 use Rattle.tw_rule.proofs.Gives.{rule_gives, rule_reopens}
 use Rattle.tw_rule.proofs.Places.{all_at, get_map}
@@ -100,6 +100,30 @@ module _ {S M E : Type 0} (m : Simulation S E) where
           (may_hand m ruled.law (length xs) bound stop flight (place_of x) ruled.rule.board (stands_at (m.dst s.event) x at) rest s is
           (eq-eqb (m.dst s.event) x.process.number (sym (ruled.each (m.dst s.event) x at).0)))
 
+      -- and is so where the process of that number has just this more
+      pub handed_ruled : (n : ℕ) (ys : List (Mailed M E)) → n ≡ m.dst s.event → ((x : Mailed M E) → slice_get xs n ≡ Some x → ys ≡ set xs n (record x { mail = x.mail ++ s ∷ [] }))
+          → AreRuled m model stop bound rest ys
+      handed_ruled n ys same h =
+          let x = there_at xs (m.dst s.event) receiver_there in
+          let is_it = subst (λ k. (z : Mailed M E) → slice_get xs k ≡ Some z → ys ≡ set xs k (record z { mail = z.mail ++ s ∷ [] })) same h in
+          subst (AreRuled m model stop bound rest) (sym (is_it x.0 x.1)) (one_handed x.0 x.1)
+
+    -- nothing has changed
+    pub still_ruled : (n : ℕ) (ys : List (Mailed M E)) → n < length xs → ((x : Mailed M E) → slice_get xs n ≡ Some x → ys ≡ set xs n x) → AreRuled m model stop bound flight ys
+    still_ruled n ys l h =
+        let x = there_at xs n l in
+        subst (AreRuled m model stop bound flight) (sym (h x.0 x.1)) (one_kept n x.0 x.0 x.1 (keeps_same m stop x.0 (sound_at n x.0 x.1)))
+
+    -- what one has sent is on its way, or nothing has changed
+    pub sent_ruled : {T F : Type 0} (r : Result T F) (i : ℕ) (x y : Mailed M E) (out : List (Signed E)) → slice_get xs i ≡ Some x → OnOk r (y ≡ taken_out x) → OnOk r (out ≡ flight ++ x.process.flight)
+        → OnErr r (y ≡ x) → OnErr r (out ≡ flight) → AreRuled m model stop bound out (set xs i y)
+    sent_ruled (Ok u) i x y out at ok sent err unsent =
+        subst (λ f. AreRuled m model stop bound f (set xs i y)) (sym sent)
+        (subst (λ z. AreRuled m model stop bound (flight ++ x.process.flight) (set xs i z)) (sym ok) (one_sent i x at))
+    sent_ruled (Err u) i x y out at ok sent err unsent =
+        subst (λ f. AreRuled m model stop bound f (set xs i y)) (sym unsent)
+        (subst (λ z. AreRuled m model stop bound flight (set xs i z)) (sym err) (one_kept i x x at (keeps_same m stop x (sound_at i x at))))
+
     -- the bound has risen
     pub bound_raised : (c : ℕ) → bound ≤ c → c ≤ stop → ((e : E) → 0 < times_among m e flight → c ≤ m.time e) → ((i : ℕ) (x : Mailed M E) → slice_get xs i ≡ Some x → NoneLooseBefore m c (place_of x))
         → AreRuled m model stop c flight xs
@@ -133,3 +157,14 @@ module _ {S M E : Type 0} (m : Simulation S E) where
       each = ruled.each;
       rule = rule_reopens m self (board_of (length xs) flight bound stop) (map place_of xs) later le ruled.rule;
     }
+
+module _ {S M E : Type 0} (sim : M → Simulation S E) (model : M) (stop bound : ℕ) (flight : List (Signed E)) (xs : List (Mailed M E)) (ruled : AreRuled (sim model) model stop bound flight xs)
+    (i : ℕ) (x y : Mailed M E) (at : slice_get xs i ≡ Some x) where
+  -- one has told why it does not go on
+  pub told_ruled : bound < stop → KeepsTo (sim x.process.model) (bound + 1) x y → AreRuled (sim model) model stop bound flight (set xs i y)
+  told_ruled lt keeps =
+      one_kept (sim model) model stop bound flight xs ruled i x y at
+      (subst (λ md. KeepsTo (sim md) (bound + 1) x y) (ruled.each i x at).1 keeps stop (omega arith) (sound_at (sim model) model stop bound flight xs ruled i x at))
+
+  pub told_full : IsFullBefore (sim x.process.model) (bound + 1) y.process → IsSomeFullBefore (sim model) (bound + 1) (set xs i y)
+  told_full full = record { number = i; member = y; there = get_set xs i x y at; full = subst (λ md. IsFullBefore (sim md) (bound + 1) y.process) (ruled.each i x at).1 full }
