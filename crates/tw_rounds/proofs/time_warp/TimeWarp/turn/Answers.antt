@@ -7,7 +7,7 @@ use Rattle.tw_rounds.specs.Ruled.{AreRuled}
 use Rattle.tw_rounds.proofs.time_warp.TimeWarp.turn.Goals as goal
 
 pub turn_all-requires-clause-may : goal.turn_all-requires-clause-may
-turn_all-requires-clause-may g c = λ lifetimes i x at.
+turn_all-requires-clause-may g c = λ lifetimes formed i x at.
     let a = c.self.inside in
     let sim = λ (model : g.row.M.Denot). simulation_of g.M.Event.Timed.parts g.M.Event.Ord.cmp (g.M.ProcessModel.behaviour model) in
     let ruled = c.self.invariant.2 in
