@@ -1,5 +1,5 @@
 -- Lists by index (own).
-use Rattle.std.proofs.Common.{◌≡◌, ℕ, zero, suc, ◌+◌, ◌-◌, ◌<◌, ◌≤◌, List, [], ◌∷◌, ◌++◌, Some, length, map, remove, set, None, slice_get, refl, ap, sym, ◌∙◌, subst, take, Result, Ok, Err, OnErr, OnOk, ◌⊎◌, inl, inr, arith}
+use Rattle.std.proofs.Common.{◌≡◌, ℕ, zero, suc, ◌-◌, ◌<◌, ◌≤◌, List, [], ◌∷◌, ◌++◌, Some, length, map, remove, set, None, slice_get, refl, ap, subst, take, Result, Ok, Err, OnErr, OnOk, ◌⊎◌, inl, inr, arith}
 use Rattle.std.specs.List.{AllByRecursion}
 
 -- what an answer tells, told in other words

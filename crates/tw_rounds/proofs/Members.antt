@@ -1,18 +1,18 @@
 -- What the calls at a process keep of its place.
-use Rattle.std.proofs.Common.{◌≡◌, ℕ, ◌+◌, ◌<◌, ◌≤◌, ◌==◌, true, false, List, [], ◌∷◌, ◌++◌, Option, Some, None, Ok, Err, length, map, min, nat_lt, remove, slice_get, refl, ap, sym, ◌∙◌, subst, ◌⊎◌, inl, inr, arith}
+use Rattle.std.proofs.Common.{◌≡◌, ℕ, ◌+◌, ◌<◌, ◌≤◌, ◌==◌, true, false, List, [], ◌∷◌, ◌++◌, Option, Some, None, Ok, length, min, remove, slice_get, refl, ap, sym, ◌∙◌, subst, ◌⊎◌, inl, inr, arith}
 use Rattle.std.proofs.lemmas.Bool.{cases_lt, eq-eqb, eqb-true, le-ltb, lt-ltb}
 use Rattle.tw_core.proofs.Counts.{antimessages-append, messages-append}
 use Rattle.tw_core.proofs.Done.{handle_done}
-use Rattle.tw_core.specs.Machine.{Core, antimessages, messages, count_ahead, times_loose}
+use Rattle.tw_core.specs.Machine.{Core, count_ahead, times_loose}
 use Rattle.tw_core.specs.Steps.{IsRolledBack, after_arrival, after_handling, first_pending, handle, is_newest, least_time, with_commit}
 use Rattle.tw_engine.specs.Arrival.{refusing}
-use Rattle.tw_engine.specs.Process.{Logical, committed_at, history, process_core}
+use Rattle.tw_engine.specs.Process.{Logical, committed_at, process_core}
 use Rattle.tw_rounds.proofs.Lists.{get_seam, remove_seam}
 use Rattle.tw_rounds.specs.Members.{IsSound, Keeps, KeepsTo, Mailed, place_of}
 use Rattle.tw_rounds.specs.Times.{earliest}
 use Rattle.tw_rule.proofs.Calls.{hand_is_loose, hand_is_own, keeps_commit, keeps_handle, keeps_receive, keeps_roll_back}
 use Rattle.tw_rule.specs.Board.{times_among}
-use Rattle.tw_rule.specs.Place.{IsPlace, NoneLooseBefore, Place, PreservesPlace, place_core, whole, with_core}
+use Rattle.tw_rule.specs.Place.{NoneLooseBefore, PreservesPlace, place_core, whole, with_core}
 use Rattle.tw_sim.proofs.Counts.{in_cons}
 use Rattle.tw_sim.specs.declared.machine.Signed.{Signed}
 use Rattle.tw_sim.specs.Simulation.{Simulation, IsLawful, state, times}

@@ -4,15 +4,14 @@ use Rattle.std.proofs.lemmas.Bool.{cases_lt}
 use Rattle.std.proofs.lemmas.List.{get_or-replicate, length-replicate}
 use Rattle.std.specs.Option.{IsSomeAnd}
 use Rattle.tw_core.proofs.Counts.{antimessages-append, messages-append}
-use Rattle.tw_core.specs.Good.{IsGoodPart}
 use Rattle.tw_core.specs.Machine.{antimessages, messages, times_loose}
 use Rattle.tw_rounds.proofs.Lists.{all_indexed, get_seam, set_seam}
 use Rattle.tw_rounds.specs.Ruled.{board_of}
 use Rattle.tw_rule.proofs.Gives.{rule_gives}
 use Rattle.tw_rule.proofs.Places.{all_at}
 use Rattle.tw_rule.proofs.Visits.{may_stay, stands_from}
-use Rattle.tw_rule.specs.Board.{Board, IsBoard, report_of, times_among, workers}
-use Rattle.tw_rule.specs.Place.{IsPlace, NoneLooseBefore, Place, PreservesPlace, in_hand, whole}
+use Rattle.tw_rule.specs.Board.{Board, IsBoard, times_among}
+use Rattle.tw_rule.specs.Place.{IsPlace, NoneLooseBefore, Place, PreservesPlace, whole}
 use Rattle.tw_rule.specs.Rule.{MayGive, Rule, Stands}
 use Rattle.tw_sim.specs.declared.machine.Signed.{Signed}
 use Rattle.tw_sim.specs.Simulation.{Simulation, IsLawful}

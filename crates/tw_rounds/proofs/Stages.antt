@@ -1,10 +1,9 @@
 -- The rule over all processes, from one stage of a round to the next.
-use Rattle.std.proofs.Common.{◌≡◌, ℕ, ◌+◌, ◌<◌, ◌≤◌, ◌==◌, true, List, [], ◌∷◌, ◌++◌, Some, Result, Ok, Err, OnErr, OnOk, length, map, max, set, slice_get, refl, ap, sym, ◌∙◌, subst, inl, inr, arith}
-use Rattle.std.proofs.lemmas.Bool.{cases_Bool, eq-eqb}
+use Rattle.std.proofs.Common.{◌≡◌, ℕ, ◌+◌, ◌<◌, ◌≤◌, List, [], ◌∷◌, ◌++◌, Some, Result, Ok, Err, OnErr, OnOk, length, map, max, set, slice_get, refl, ap, sym, ◌∙◌, subst, arith}
+use Rattle.std.proofs.lemmas.Bool.{eq-eqb}
 use Rattle.std.proofs.lemmas.List.{length-map, length-set}
 use Rattle.tw_core.proofs.Counts.{antimessages-append, messages-append}
 use Rattle.tw_core.specs.Machine.{antimessages, messages}
-use Rattle.tw_engine.specs.Process.{Logical}
 use Rattle.tw_rounds.proofs.Lists.{get_set, map_get, map_set, set_each, there_at, within}
 use Rattle.tw_rounds.proofs.Members.{earliest-le, earliest-there, keeps_same}
 use Rattle.tw_rounds.proofs.Rules.{all_turn, among_self, known_stands, knowing, loose_from, may_hand, may_send, rule_raised, self}
@@ -15,10 +14,10 @@ use Rattle.tw_rule.proofs.Gives.{rule_gives, rule_reopens}
 use Rattle.tw_rule.proofs.Places.{all_at, get_map}
 use Rattle.tw_rule.proofs.Visits.{may_stay}
 use Rattle.tw_rule.specs.Board.{times_among}
-use Rattle.tw_rule.specs.Place.{NoneLooseBefore, Place, PreservesPlace}
+use Rattle.tw_rule.specs.Place.{NoneLooseBefore, PreservesPlace}
 use Rattle.tw_rule.specs.Rule.{MayGive, Rule, Stands}
 use Rattle.tw_sim.specs.declared.machine.Signed.{Signed}
-use Rattle.tw_sim.specs.Simulation.{Simulation, IsLawful}
+use Rattle.tw_sim.specs.Simulation.{Simulation}
 
 module _ {S M E : Type 0} (m : Simulation S E) where
   module _ (model : M) (stop bound : ℕ) (flight : List (Signed E)) (xs : List (Mailed M E)) (ruled : AreRuled m model stop bound flight xs) where

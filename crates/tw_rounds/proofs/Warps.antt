@@ -1,32 +1,29 @@
 -- What the rule tells of a run, as its user sees it.
-use Rattle.std.proofs.Common.{◌≡◌, ℕ, zero, suc, ◌+◌, ◌<◌, ◌≤◌, ◌==◌, cond, true, List, [], ◌∷◌, Option, Some, None, Err, length, map, replicate, slice_get, nat_lt, refl, ap, sym, ◌∙◌, subst, inl, inr, arith}
+use Rattle.std.proofs.Common.{◌≡◌, ℕ, suc, ◌+◌, ◌<◌, ◌==◌, true, List, [], ◌∷◌, Option, Some, None, Err, length, map, replicate, slice_get, nat_lt, refl, ap, sym, ◌∙◌, subst, inl, inr, arith}
 use Rattle.std.proofs.lemmas.Bool.{cases_Bool, cases_lt, cond-true, eq-eqb, ltb-true}
 use Rattle.std.proofs.lemmas.List.{length-map}
 use Rattle.std.specs.Option.{option_map_or}
-use Rattle.tw_core.specs.Machine.{count_ahead, times_loose}
+use Rattle.tw_core.specs.Machine.{count_ahead}
 use Rattle.tw_core.specs.Steps.{first_pending, handle, is_newest}
-use Rattle.tw_core.specs.declared.refusal.Refusal.{Refusal}
 use Rattle.tw_core.specs.declared.refusal.Refusal.TheVariants.{CounterFull}
 use Rattle.tw_core.specs.Machine.{Core}
 use Rattle.tw_engine.proofs.Machine.{there}
-use Rattle.tw_engine.specs.Process.{Logical, history, process_core}
+use Rattle.tw_engine.specs.Process.{history, process_core}
 use Rattle.tw_rounds.proofs.Lists.{beyond, there_at}
 use Rattle.tw_rounds.proofs.Rules.{loose_from, self}
 use Rattle.tw_rounds.proofs.Stages.{stands_at}
-use Rattle.tw_rounds.specs.Members.{IsFullBefore, Mailed, opening_of, place_of}
+use Rattle.tw_rounds.specs.Members.{Mailed, opening_of, place_of}
 use Rattle.tw_rounds.specs.Ruled.{AreRuled, IsSomeFullBefore, board_of}
 use Rattle.tw_rounds.specs.Warp as spec
 use Rattle.tw_rounds.specs.Warp.{HasRun, IsRight, IsStuck, IsStuckAt, Warp}
 use Rattle.tw_rule.proofs.Opens.{rule_opens}
 use Rattle.tw_rule.proofs.Places.{get_map}
 use Rattle.tw_rule.proofs.Ruled.{before_of, handled_of}
-use Rattle.tw_rule.specs.Place.{Place}
 use Rattle.tw_rule.specs.Rule.{AreOpeningPlaces, IsOpeningPlace}
 use Rattle.tw_sim.proofs.Counts.{in_filter, times-filter-no, times-filter-yes, times-insert_all}
 use Rattle.tw_sim.proofs.Least.{least_is}
 use Rattle.tw_sim.specs.declared.machine.Signed.{Signed}
-use Rattle.tw_sim.specs.Ordered as ordered
-use Rattle.tw_sim.specs.Seq.{insert_all, log}
+use Rattle.tw_sim.specs.Seq.{log}
 use Rattle.tw_sim.specs.Simulation.{Simulation, IsLawful, IsNumbered, below, only, state, times}
 
 -- the run that some processes are

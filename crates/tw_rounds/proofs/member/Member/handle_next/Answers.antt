@@ -1,4 +1,4 @@
-use Rattle.std.proofs.Common.{◌≡◌, Err, ap, sym, ◌∙◌, subst}
+use Rattle.std.proofs.Common.{Err, ap, sym, ◌∙◌, subst}
 use Rattle.tw_core.specs.declared.refusal.Refusal.TheVariants as refusal
 use Rattle.tw_engine.specs.declared.stopped.Stopped.TheVariants as stopped
 use Rattle.tw_process.specs.Behaviour.{simulation_of}
