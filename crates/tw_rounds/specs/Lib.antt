@@ -1,0 +1,4 @@
+pub mod Members
+pub mod Ruled
+pub mod Times
+pub mod Warp

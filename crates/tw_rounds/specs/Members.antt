@@ -1,0 +1,79 @@
+-- A logical process with its mail, as a place of the rule (own, after Jefferson, Virtual Time, 1985).
+use Rattle.std.specs.Prelude.{ℕ, ◌==◌, ◌≡◌, ◌≤◌, ◌^◌, List, [], Err, length, max}
+use Rattle.tw_core.specs.Steps.{first_pending, handle, put}
+use Rattle.tw_core.specs.declared.refusal.Refusal.TheVariants.{CounterFull}
+use Rattle.tw_engine.specs.Process.{Logical, history, process_core}
+use Rattle.tw_rounds.specs.declared.turning.Round.{Round}
+use Rattle.tw_rule.specs.Place.{IsPlace, Place, PreservesPlace}
+use Rattle.tw_sim.specs.declared.machine.Cancel.TheVariants.{Aggressive}
+use Rattle.tw_sim.specs.declared.machine.Signed.{Signed}
+use Rattle.tw_sim.specs.Seq.{insert_all}
+use Rattle.tw_sim.specs.Simulation.{IsLawful, Simulation, only}
+
+-- a process, and the messages that it was handed and has not received
+pub record Mailed (M E : Type 0) : Type 0 where
+  pub process : Logical M E
+  -- the one that is received first stands last
+  pub mail : List (Signed E)
+
+module _ {M E : Type 0} where
+  -- the process as a place of its own, whose worker has its number
+  abbrev pub place_of : Mailed M E → Place E
+  place_of x = record {
+    worker = x.process.number;
+    owns = λ r. r == x.process.number;
+    history = put (λ r. []) x.process.number (history x.process);
+    pending = x.process.pending;
+    kept = x.process.kept;
+    outgoing = x.process.flight;
+    held = [];
+    done = put (λ r. 0) x.process.number x.process.done;
+    past = put (λ r. 0) x.process.number (length x.process.past);
+    room = λ r. 2 ^ 64;
+    bound = x.process.bound;
+    cancel = Aggressive;
+    mail = x.mail;
+    unsent = [];
+  }
+
+  -- the process knows this bound, or its own where that is later
+  abbrev pub raised : ℕ → Mailed M E → Mailed M E
+  raised bound x = record x { process = record x.process { bound = max x.process.bound bound } }
+
+  -- what it has sent is taken out of it
+  abbrev pub taken_out : Mailed M E → Mailed M E
+  taken_out x = record x { process = record x.process { flight = [] } }
+
+module _ {S M E : Type 0} (m : Simulation S E) where
+  -- the process of this number as it begins: its opening events are pending
+  abbrev pub opening_of : M → ℕ → Mailed M E
+  opening_of model number = record {
+    process = record { model = model; number = number; ahead = []; past = []; pending = insert_all m (only m number m.opening) []; kept = []; flight = []; done = 0; bound = 0 };
+    mail = [];
+  }
+
+  -- a process is a place of the rule, to this stop
+  pub record IsSound (stop : ℕ) (x : Mailed M E) : Type 0 where
+    pub law : IsLawful m
+    pub place : IsPlace m stop (place_of x)
+
+  -- what a call at a process keeps, to this stop: it is the same process, and what a call at a place keeps
+  pub record Keeps (stop : ℕ) (x y : Mailed M E) : Type 0 where
+    pub model : y.process.model ≡ x.process.model
+    pub number : y.process.number ≡ x.process.number
+    pub place : PreservesPlace m stop (place_of x) (place_of y)
+
+  -- what a call keeps that handles events before a limit alone, whatever the stop beyond it
+  abbrev pub KeepsTo : ℕ → Mailed M E → Mailed M E → Type 0
+  KeepsTo limit x y = (stop : ℕ) → limit ≤ stop → IsSound stop x → Keeps stop x y
+
+  -- a process may take its turn in a round, of a model with this latest time
+  pub record MayTurn (latest : ℕ) (round : Round) (x : Mailed M E) : Type 0 where
+    pub sound : IsSound round.stop (raised round.bound x)
+    -- it handles nothing at or after the stop, which is no later than that
+    pub limit : round.limit ≤ round.stop
+    pub early : round.stop ≤ latest
+
+  -- a process is refused to handle its first pending event, which is before this time, since a counter is full
+  abbrev pub IsFullBefore : ℕ → Logical M E → Type 0
+  IsFullBefore time p = handle m (process_core time p) p.number (first_pending m (process_core time p) p.number) ≡ Err CounterFull

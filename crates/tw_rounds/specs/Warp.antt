@@ -1,0 +1,56 @@
+-- A parallel run of a model, as its user sees it (own, after Jefferson, Virtual Time, 1985).
+use Rattle.std.specs.Prelude.{ℕ, ◌≡◌, ◌<◌, true, List, [], Some, slice_get}
+use Rattle.std.specs.Option.{option_map_or}
+use Rattle.tw_core.specs.Steps.{first_pending}
+use Rattle.tw_engine.specs.Process.{Logical, history, process_core}
+use Rattle.tw_sim.specs.Seq.{log}
+use Rattle.tw_sim.specs.Simulation.{Simulation, below, only, state}
+
+-- a run, as far as it has come
+pub record Warp (M E : Type 0) : Type 0 where
+  pub model : M
+  -- the greatest stop asked for, and the bound: what was handled before it stays
+  pub stop : ℕ
+  pub bound : ℕ
+  -- the processes, each at its number
+  pub processes : List (Logical M E)
+
+module _ {M E : Type 0} where
+  -- what process r has handled and not undone, the newest event first
+  abbrev pub handled : ℕ → Warp M E → List E
+  handled r w = option_map_or history (slice_get w.processes r) []
+
+  -- the later run is of the same model and to the same stop
+  pub record IsSameRun (v w : Warp M E) : Type 0 where
+    pub model : w.model ≡ v.model
+    pub stop : w.stop ≡ v.stop
+
+module _ {S M E : Type 0} (m : Simulation S E) where
+  -- a run before its first event
+  pub record IsOpening (model : M) (w : Warp M E) : Type 0 where
+    pub same : w.model ≡ model
+    pub stop : w.stop ≡ 0
+    pub bound : w.bound ≡ 0
+    pub none : (r : ℕ) → handled r w ≡ []
+
+  -- each process has handled its events of the sequential run to the stop, and no others
+  abbrev pub HasRun : Warp M E → Type 0
+  HasRun w = (r : ℕ) → r < m.routers → handled r w ≡ only m r (log m w.stop)
+
+  -- before the bound each process has handled its events of the sequential run, and no others
+  abbrev pub IsRight : Warp M E → Type 0
+  IsRight w = (r : ℕ) → r < m.routers → below m w.bound (handled r w) ≡ only m r (log m w.bound)
+
+  -- a counter is full for the first pending event of a process, and that is at this bound, so that nothing takes it back
+  pub record IsStuckAt (bound : ℕ) (p : Logical M E) : Type 0 where
+    pub event : E
+    pub first : first_pending m (process_core bound p) p.number ≡ Some event
+    pub time : m.time event ≡ bound
+    pub full : m.full (state m p.number (history p)) event ≡ true
+
+  -- a process of a run is stuck at its bound
+  pub record IsStuck (w : Warp M E) : Type 0 where
+    pub number : ℕ
+    pub process : Logical M E
+    pub there : slice_get w.processes number ≡ Some process
+    pub stuck : IsStuckAt w.bound process

@@ -1,0 +1,55 @@
+//! PHOLD by both engines.
+
+ghost use Rattle.std.specs.Prelude.{◌≡◌, ◌<◌};
+
+use std::alloc::Global;
+use std::sync::Wait;
+use std::thread::Threads;
+use tw_phold::Phold;
+use tw_rounds::TimeWarp;
+use tw_sequential::Sequential;
+
+/// Whether both engines leave the same states at this stop, the parallel one by so many threads.
+fn agree<R: Threads + Wait + Sync>(
+    rt: &R,
+    alloc: Global,
+    phold: &Phold,
+    workers: u32,
+    stop: u64,
+) -> Option<bool>
+    requires { stop < 1000 }
+{
+    let mut one = Sequential::open(alloc, phold).ok()?;
+    one.run_to(stop).ok()?;
+    let phold = one.model();
+    let mut several = TimeWarp::open(alloc, phold).ok()?;
+    several.run_to(rt, workers, stop).ok()?;
+    Some(are_same(phold, &one, &several))
+}
+
+/// Whether the states of both runs are the same.
+fn are_same(phold: &Phold, one: &Sequential<'_, Phold>, several: &TimeWarp<'_, Phold>) -> bool
+    requires one { one.now.model ≡ phold.now }
+    requires several { several.now.model ≡ phold.now }
+{
+    for process in 0..phold.processes {
+        if one.state(process) != several.state(process) {
+            return false;
+        }
+    }
+    true
+}
+
+#[test]
+fn phold_by_one_thread(rt: HostRuntime) {
+    if let Some(phold) = Phold::new(512, 8, 1, 20, 1000, 7) {
+        assert!(rt; agree(&rt, rt.alloc(), &phold, 1, 40) == Some(true));
+    }
+}
+
+#[test]
+fn phold_by_three_threads(rt: HostRuntime) {
+    if let Some(phold) = Phold::new(512, 8, 1, 20, 1000, 7) {
+        assert!(rt; agree(&rt, rt.alloc(), &phold, 3, 40) == Some(true));
+    }
+}
