@@ -111,8 +111,9 @@ fn several_threads_have_processors_where_they_miss_little(rt: HostRuntime) {
 #[test]
 fn a_lap_beside_other_threads_takes_some_milliseconds(rt: HostRuntime) {
     // 80 ticks took 500 microseconds, so that 960 take 6,000.
-    assert!(rt; steady().sounding_end(10_000) == 4_160);
-    assert!(rt; steady().sounding_end(4_000) == 4_000);
+    let alone = steady().lap(3_280, 500, 0);
+    assert!(rt; alone.sounding_end(10_000) == 4_240);
+    assert!(rt; alone.sounding_end(4_000) == 4_000);
     // It is patient for twenty times as long.
     let hindered = steady().hindered();
     assert!(rt; !hindered.lap(3_216, 119_999, 0).is_trial_due(1_000_000));
