@@ -2,7 +2,7 @@ use Rattle.std.proofs.Common.{Err, max, ap, subst, ◌∙◌, arith, ◌≡◌}
 use Rattle.std.proofs.KnownBytes.{Keeps-refl}
 use Rattle.tw_phold.specs.Phold.{simulation}
 use Rattle.tw_sequential.specs.Run.{Continues, IsStuck}
-use Rattle.twarp_phold.proofs.perform.report.Goals as goal
+use Rattle.twarp_phold.proofs.perform.seq.Goals as goal
 
 pub returns-in-Err-CounterFull : goal.returns-in-Err-CounterFull
 returns-in-Err-CounterFull g c =
