@@ -42,12 +42,29 @@ pub(crate) fn perform<X: Threads + Wait + Sync, S: Sink, C: Clock>(
         line.remote,
         line.seed,
     );
-    match (asked, line.by) {
-        (Some(phold), By::OneThread) => seq(alloc, &phold, line.stop, sink, meter),
-        (Some(phold), By::Workers(workers)) => {
-            run(rt, alloc, &phold, workers, line.stop, sink, meter)
-        }
-        (None, _) => refuse(sink),
+    match asked {
+        Some(phold) => report(rt, alloc, &phold, line.by, line.stop, sink, meter),
+        None => refuse(sink),
+    }
+}
+
+/// Runs PHOLD to a stop as it is asked for, and writes its report.
+fn report<X: Threads + Wait + Sync, S: Sink, C: Clock>(
+    rt: &X,
+    alloc: Global,
+    phold: &Phold,
+    by: By,
+    stop: u64,
+    sink: &mut S,
+    meter: &Meter<'_, C>,
+) -> Result<Status, Cause>
+    requires open { S.failed sink.old ≡ false }
+    requires stop { stop ≤ LATEST }
+    ensures { Reports result by phold.now stop (S.written sink.old) (S.written sink.new) (S.failed sink.new) }
+{
+    match by {
+        By::OneThread => seq(alloc, phold, stop, sink, meter),
+        By::Workers(workers) => run(rt, alloc, phold, workers, stop, sink, meter),
     }
 }
 

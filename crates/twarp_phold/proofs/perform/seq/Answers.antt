@@ -18,3 +18,6 @@ returns-in-Err-CounterFull g c =
       Keeps-refl (g.S.Sink.written c.args.sink.now),
       c.requires.open,
     )
+
+pub returns-in_err-write_report : goal.returns-in_err-write_report
+returns-in_err-write_report g c = ?
