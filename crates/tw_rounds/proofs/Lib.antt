@@ -1,0 +1,5 @@
+pub mod Lists
+pub mod Rules
+pub mod Members
+pub mod Stages
+pub mod Warps

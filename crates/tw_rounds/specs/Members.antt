@@ -70,9 +70,9 @@ module _ {S M E : Type 0} (m : Simulation S E) where
   -- a process may take its turn in a round, of a model with this latest time
   pub record MayTurn (latest : ℕ) (round : Round) (x : Mailed M E) : Type 0 where
     pub sound : IsSound round.stop (raised round.bound x)
-    -- it handles nothing at or after the stop, nor at or after the latest time
+    -- it handles nothing at or after the stop, which is no later than that
     pub limit : round.limit ≤ round.stop
-    pub latest : round.stop ≤ latest
+    pub early : round.stop ≤ latest
 
   -- a process is refused to handle its first pending event, which is before this time, since a counter is full
   abbrev pub IsFullBefore : ℕ → Logical M E → Type 0

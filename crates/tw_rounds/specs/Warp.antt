@@ -28,10 +28,10 @@ module _ {M E : Type 0} where
 module _ {S M E : Type 0} (m : Simulation S E) where
   -- a run before its first event
   pub record IsOpening (model : M) (w : Warp M E) : Type 0 where
-    pub model : w.model ≡ model
+    pub same : w.model ≡ model
     pub stop : w.stop ≡ 0
     pub bound : w.bound ≡ 0
-    pub handled : (r : ℕ) → handled r w ≡ []
+    pub none : (r : ℕ) → handled r w ≡ []
 
   -- each process has handled its events of the sequential run to the stop, and no others
   abbrev pub HasRun : Warp M E → Type 0

@@ -1,7 +1,7 @@
 //! What processes have sent is taken out of them, and dealt out to their receivers. The rule holds all along, whatever
 //! the model, the stop and the bound to which it holds.
 
-ghost use Rattle.std.specs.Prelude.{ℕ, ◌+◌, ◌≡◌, ◌<◌, ◌≤◌, Some, IsErrOf, length, slice_get};
+ghost use Rattle.std.specs.Prelude.{ℕ, ◌+◌, ◌^◌, ◌≡◌, ◌<◌, ◌≤◌, ◌++◌, ◌∷◌, [], Some, IsErrOf, OnErr, OnOk, length, slice_get, slice_set};
 ghost use Rattle.tw_process.specs.Behaviour.{simulation_of};
 ghost use Rattle.tw_process.specs.declared.refused.Refused.TheVariants.{CounterFull};
 ghost use Rattle.tw_rounds.specs.Members.{place_of};
@@ -20,12 +20,13 @@ pub(crate) fn tell_all<M: ProcessModel>(
     members: &mut [Member<'_, M>],
     bound: u64,
 ) -> Result<(), Refused>
-    requires { (model : M) × (stop : ℕ) × (flight : _) × (bound < (M.behaviour model).latest) × (bound < stop)
+    requires fits { bound + 1 < 2 ^ 64 }
+    requires ruled { (model : M) × (stop : ℕ) × (flight : _) × (bound < (M.behaviour model).latest) × (bound < stop)
         × AreRuled (simulation_of M.Event.parts M.Event.cmp (M.behaviour model)) model stop bound flight members.old }
     ensures ruled { (model : M) (stop : ℕ) (flight : _) → let m = simulation_of M.Event.parts M.Event.cmp (M.behaviour model) in
         bound < stop → AreRuled m model stop bound flight members.old → AreRuled m model stop bound flight members.new }
     ensures full { (model : M) (stop : ℕ) (flight : _) → let m = simulation_of M.Event.parts M.Event.cmp (M.behaviour model) in
-        AreRuled m model stop bound flight members.old → IsErrOf result CounterFull → IsSomeFullBefore m (bound + 1) members.new }
+        bound < stop → AreRuled m model stop bound flight members.old → IsErrOf result CounterFull → IsSomeFullBefore m (bound + 1) members.new }
 {
     for number in 0..members.len() {
         tell_at(members, number, bound)?;
@@ -40,12 +41,13 @@ fn tell_at<M: ProcessModel>(
     bound: u64,
 ) -> Result<(), Refused>
     requires here { number < length members.old }
+    requires fits { bound + 1 < 2 ^ 64 }
     requires ruled { (model : M) × (stop : ℕ) × (flight : _) × (bound < (M.behaviour model).latest) × (bound < stop)
         × AreRuled (simulation_of M.Event.parts M.Event.cmp (M.behaviour model)) model stop bound flight members.old }
     ensures ruled { (model : M) (stop : ℕ) (flight : _) → let m = simulation_of M.Event.parts M.Event.cmp (M.behaviour model) in
         bound < stop → AreRuled m model stop bound flight members.old → AreRuled m model stop bound flight members.new }
     ensures full { (model : M) (stop : ℕ) (flight : _) → let m = simulation_of M.Event.parts M.Event.cmp (M.behaviour model) in
-        AreRuled m model stop bound flight members.old → IsErrOf result CounterFull → IsSomeFullBefore m (bound + 1) members.new }
+        bound < stop → AreRuled m model stop bound flight members.old → IsErrOf result CounterFull → IsSomeFullBefore m (bound + 1) members.new }
 {
     members[number].tell(bound)
 }
@@ -123,9 +125,22 @@ fn deal_last<M: ProcessModel>(
         return Ok(());
     };
     let message = *message;
-    members[message.event.dst() as usize].hand(message)?;
+    hand_at(members, message.event.dst() as usize, message)?;
     let _ = flight.pop();
     Ok(())
+}
+
+/// The process of this number is handed a message. Where there is no memory nothing changes.
+fn hand_at<M: ProcessModel>(
+    members: &mut [Member<'_, M>],
+    number: usize,
+    message: Signed<M::Event>,
+) -> Result<(), AllocError>
+    requires { number < length members.old }
+    ensures ok { OnOk result ((x : _) → slice_get members.old number ≡ Some x → members.new ≡ slice_set members.old number (record x { mail = x.mail ++ message ∷ [] })) }
+    ensures err { OnErr result ((x : _) → slice_get members.old number ≡ Some x → members.new ≡ slice_set members.old number x) }
+{
+    members[number].hand(message)
 }
 
 /// How many events all handled in the last round.

@@ -1,6 +1,6 @@
 //! A logical process with its mail.
 
-ghost use Rattle.std.specs.Prelude.{ℕ, ◌+◌, ◌≡◌, ◌<◌, ◌≤◌, ◌++◌, ◌∷◌, [], true, IfOk, IsErrOf, OnErr, OnOk};
+ghost use Rattle.std.specs.Prelude.{ℕ, ◌+◌, ◌^◌, ◌≡◌, ◌<◌, ◌≤◌, ◌++◌, ◌∷◌, [], true, IfOk, IsErrOf, OnErr, OnOk};
 ghost use Rattle.tw_core.specs.Steps.{IsRolledBack, after_arrival};
 ghost use Rattle.tw_engine.specs.Process.{IsSameProcess, process_core};
 ghost use Rattle.tw_process.specs.Behaviour.{simulation_of};
@@ -90,7 +90,8 @@ impl<'a, M: ProcessModel> Member<'a, M> {
     fn go_on(&mut self, limit: u64) -> Result<(), Refused>
         requires sound { (stop : ℕ) × IsSound (simulation_of M.Event.parts M.Event.cmp (M.behaviour self.old.process.model)) stop self.old }
         requires latest { limit ≤ (M.behaviour self.old.process.model).latest }
-        ensures { KeepsTo (simulation_of M.Event.parts M.Event.cmp (M.behaviour self.old.process.model)) limit self.old self.new }
+        ensures kept { KeepsTo (simulation_of M.Event.parts M.Event.cmp (M.behaviour self.old.process.model)) limit self.old self.new }
+        ensures model { self.new.process.model ≡ self.old.process.model }
     {
         if self.receive_all().is_err() {
             return Err(Refused::Memory);
@@ -104,7 +105,8 @@ impl<'a, M: ProcessModel> Member<'a, M> {
     /// It receives its mail.
     fn receive_all(&mut self) -> Result<(), AllocError>
         requires { (stop : ℕ) × IsSound (simulation_of M.Event.parts M.Event.cmp (M.behaviour self.old.process.model)) stop self.old }
-        ensures { KeepsTo (simulation_of M.Event.parts M.Event.cmp (M.behaviour self.old.process.model)) 0 self.old self.new }
+        ensures kept { KeepsTo (simulation_of M.Event.parts M.Event.cmp (M.behaviour self.old.process.model)) 0 self.old self.new }
+        ensures model { self.new.process.model ≡ self.old.process.model }
     {
         for _ in 0..self.mail.len() {
             self.receive_next()?;
@@ -115,7 +117,8 @@ impl<'a, M: ProcessModel> Member<'a, M> {
     /// It receives the next message of its mail, if there is one.
     fn receive_next(&mut self) -> Result<(), AllocError>
         requires { (stop : ℕ) × IsSound (simulation_of M.Event.parts M.Event.cmp (M.behaviour self.old.process.model)) stop self.old }
-        ensures { KeepsTo (simulation_of M.Event.parts M.Event.cmp (M.behaviour self.old.process.model)) 0 self.old self.new }
+        ensures kept { KeepsTo (simulation_of M.Event.parts M.Event.cmp (M.behaviour self.old.process.model)) 0 self.old self.new }
+        ensures model { self.new.process.model ≡ self.old.process.model }
     {
         let Some(message) = self.mail.last() else {
             return Ok(());
@@ -127,7 +130,8 @@ impl<'a, M: ProcessModel> Member<'a, M> {
 
     /// Its events before the bound become committed.
     fn commit(&mut self) -> Result<(), AllocError>
-        ensures { KeepsTo (simulation_of M.Event.parts M.Event.cmp (M.behaviour self.old.process.model)) 0 self.old self.new }
+        ensures kept { KeepsTo (simulation_of M.Event.parts M.Event.cmp (M.behaviour self.old.process.model)) 0 self.old self.new }
+        ensures model { self.new.process.model ≡ self.old.process.model }
     {
         self.process.commit()?;
         Ok(())
@@ -136,7 +140,8 @@ impl<'a, M: ProcessModel> Member<'a, M> {
     /// It handles its events before the limit, one after the other.
     fn handle_all(&mut self, limit: u64) -> Result<(), Refused>
         requires { limit ≤ (M.behaviour self.old.process.model).latest }
-        ensures { KeepsTo (simulation_of M.Event.parts M.Event.cmp (M.behaviour self.old.process.model)) limit self.old self.new }
+        ensures kept { KeepsTo (simulation_of M.Event.parts M.Event.cmp (M.behaviour self.old.process.model)) limit self.old self.new }
+        ensures model { self.new.process.model ≡ self.old.process.model }
     {
         for _ in 0..MOST_EVENTS {
             if !self.handle_next(limit)? {
@@ -168,7 +173,8 @@ impl<'a, M: ProcessModel> Member<'a, M> {
     /// Tells why the run does not go on, where this process is the cause: it had no memory, or a counter is full for its
     /// first event and that is at the bound.
     pub(crate) fn tell(&mut self, bound: u64) -> Result<(), Refused>
-        requires { bound < (M.behaviour self.old.process.model).latest }
+        requires latest { bound < (M.behaviour self.old.process.model).latest }
+        requires fits { bound + 1 < 2 ^ 64 }
         ensures kept { KeepsTo (simulation_of M.Event.parts M.Event.cmp (M.behaviour self.old.process.model)) (bound + 1) self.old self.new }
         ensures model { self.new.process.model ≡ self.old.process.model }
         ensures number { self.new.process.number ≡ self.old.process.number }

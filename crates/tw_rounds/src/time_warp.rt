@@ -107,6 +107,16 @@ impl<'a, M: ProcessModel> TimeWarp<'a, M> {
         ensures complete { let m = simulation_of M.Event.parts M.Event.cmp (M.behaviour self.now.model) in
             self.now.bound ≡ self.now.stop → M.known result.now ≡ at m self.now.stop number }
     {
+        self.keeps_rule();
+        self.state_of(number)
+    }
+
+    /// The state of a process, as the events that it has handled left it.
+    fn state_of(&self, number: u32) -> &M::State
+        requires { number < (M.behaviour self.now.model).processes }
+        ensures { let m = simulation_of M.Event.parts M.Event.cmp (M.behaviour self.now.model) in
+            M.known result.now ≡ state m number (handled number self.now) }
+    {
         self.members[number as usize].process().state()
     }
 
@@ -133,7 +143,7 @@ impl<'a, M: ProcessModel> TimeWarp<'a, M> {
         requires { self.old.bound < self.old.stop }
         ensures same { IsSameRun self.old self.new }
         ensures rises { self.old.bound ≤ self.new.bound }
-        ensures full { IsErrOf result CounterFull → IsStuck (simulation_of M.Event.parts M.Event.cmp (M.behaviour self.old.model)) self.new }
+        ensures full { IsErrOf result CounterFull → IsStuck (simulation_of M.Event.parts M.Event.cmp (M.behaviour self.new.model)) self.new }
     {
         self.tell()?;
         if self.send().is_err() {
@@ -152,8 +162,9 @@ impl<'a, M: ProcessModel> TimeWarp<'a, M> {
         requires { self.old.bound < self.old.stop }
         ensures same { IsSameRun self.old self.new }
         ensures bound { self.new.bound ≡ self.old.bound }
-        ensures full { IsErrOf result CounterFull → IsStuck (simulation_of M.Event.parts M.Event.cmp (M.behaviour self.old.model)) self.new }
+        ensures full { IsErrOf result CounterFull → IsStuck (simulation_of M.Event.parts M.Event.cmp (M.behaviour self.new.model)) self.new }
     {
+        model_is_lawful(self.model);
         tell_all(&mut self.members, self.bound)
     }
 
@@ -237,8 +248,8 @@ where
         requires { self.old.bound < self.old.stop }
         ensures same { IsSameRun self.old self.new }
         ensures rises { self.old.bound ≤ self.new.bound }
-        ensures right { IsRight (simulation_of M.Event.parts M.Event.cmp (M.behaviour self.old.model)) self.new }
-        ensures full { IsErrOf result CounterFull → IsStuck (simulation_of M.Event.parts M.Event.cmp (M.behaviour self.old.model)) self.new }
+        ensures right { IsRight (simulation_of M.Event.parts M.Event.cmp (M.behaviour self.new.model)) self.new }
+        ensures full { IsErrOf result CounterFull → IsStuck (simulation_of M.Event.parts M.Event.cmp (M.behaviour self.new.model)) self.new }
     {
         self.turn(rt, workers);
         let met = self.meet();
