@@ -1,0 +1,7 @@
+use Rattle.twarp_phold.proofs.perform.report.Goals as goal
+
+pub returns-in-OneThread : goal.returns-in-OneThread
+returns-in-OneThread g c = rw c.in-OneThread.is c.seq.ensures
+
+pub returns-in-Workers : goal.returns-in-Workers
+returns-in-Workers g c = rw c.in-Workers.is c.run.ensures
