@@ -183,7 +183,8 @@ impl<'a, M: ProcessModel> TimeWarp<'a, M> {
         self.handled = count_handled(&self.members);
         let (messages, antimessages) = count_signs(&self.flight);
         self.counts.add_round(self.handled, messages, antimessages);
-        self.window = next_window(self.window, self.handled, antimessages);
+        let lookahead = self.model.lookahead();
+        self.window = next_window(self.window, lookahead, self.handled, antimessages);
     }
 
     /// The bound rises to the least time of all that waits or is on its way, and at most to the stop.

@@ -3,7 +3,7 @@
 
 ghost use Rattle.std.specs.Prelude.{◌≡◌, ◌<◌, ◌≤◌};
 
-use crate::limits::{MOST_WINDOW, WORTH_THREADS};
+use crate::limits::{LITTLE, MOST_WINDOW, MUCH, WORTH_THREADS};
 
 /// The time before which events are handled in a round, beyond the bound and at most the stop: so it is never none.
 pub(crate) fn limit_of(bound: u64, window: u64, stop: u64) -> u64
@@ -14,13 +14,15 @@ pub(crate) fn limit_of(bound: u64, window: u64, stop: u64) -> u64
     stop.min(bound.saturating_add(window.max(1)))
 }
 
-/// The window of optimism after a round in which so many events were handled and so many antimessages sent: twice as
-/// long where little was taken back, half as long where much was, and at least one tick.
-pub(crate) fn next_window(window: u64, handled: u64, antimessages: u64) -> u64 {
-    if antimessages > handled / 8 {
-        (window / 2).max(1)
+/// The window of optimism after a round in which so many events were handled and so many antimessages sent: half as long
+/// where much was taken back, an eighth longer where little was, and at least the lookahead, within which nothing is.
+pub(crate) fn next_window(window: u64, lookahead: u64, handled: u64, antimessages: u64) -> u64 {
+    if antimessages > handled / MUCH {
+        (window / 2).max(lookahead)
+    } else if antimessages > handled / LITTLE {
+        window
     } else {
-        window.saturating_mul(2).min(MOST_WINDOW)
+        window.saturating_add(window / 8 + 1).min(MOST_WINDOW)
     }
 }
 

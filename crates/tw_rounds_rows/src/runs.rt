@@ -1,5 +1,7 @@
 //! PHOLD by both engines.
 
+ghost use Rattle.std.specs.Prelude.{◌≡◌, ◌<◌};
+
 use std::alloc::Global;
 use std::sync::Wait;
 use std::thread::Threads;
@@ -19,13 +21,23 @@ fn agree<R: Threads + Wait + Sync>(
 {
     let mut one = Sequential::open(alloc, phold).ok()?;
     one.run_to(stop).ok()?;
+    let phold = one.model();
     let mut several = TimeWarp::open(alloc, phold).ok()?;
     several.run_to(rt, workers, stop).ok()?;
-    let mut same = true;
+    Some(are_same(phold, &one, &several))
+}
+
+/// Whether the states of both runs are the same.
+fn are_same(phold: &Phold, one: &Sequential<'_, Phold>, several: &TimeWarp<'_, Phold>) -> bool
+    requires one { one.now.model ≡ phold.now }
+    requires several { several.now.model ≡ phold.now }
+{
     for process in 0..phold.processes {
-        same = same && one.state(process) == several.state(process);
+        if one.state(process) != several.state(process) {
+            return false;
+        }
     }
-    Some(same)
+    true
 }
 
 #[test]
