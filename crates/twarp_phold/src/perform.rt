@@ -16,7 +16,6 @@ use std::time::Clock;
 use tw_device::Sink;
 use tw_phold::Phold;
 use tw_phold_options::{By, CommandLine};
-use tw_process::Refused;
 use tw_rounds::TimeWarp;
 use tw_sequential::Sequential;
 
@@ -81,11 +80,7 @@ fn seq<S: Sink, C: Clock>(
     ensures { Reports result OneThread phold.now stop (S.written sink.old) (S.written sink.new) (S.failed sink.new) }
 {
     let mut run = Sequential::open(alloc, phold)?;
-    match run.run_to(stop) {
-        Ok(()) => {}
-        Err(Refused::CounterFull) => return Err(Cause::CounterFull),
-        Err(Refused::Memory) => return Err(Cause::Memory),
-    }
+    run.run_to(stop)?;
     meter.has_run(Tally::of_one_thread(run.count_events()));
     write_report(sink, &run)?;
     Ok(Status::Done)
@@ -106,11 +101,7 @@ fn run<X: Threads + Wait + Sync, S: Sink, C: Clock>(
     ensures { Reports result (Workers workers) phold.now stop (S.written sink.old) (S.written sink.new) (S.failed sink.new) }
 {
     let mut run = TimeWarp::open(alloc, phold)?;
-    match run.run_to(rt, workers, stop) {
-        Ok(()) => {}
-        Err(Refused::CounterFull) => return Err(Cause::CounterFull),
-        Err(Refused::Memory) => return Err(Cause::Memory),
-    }
+    run.run_to(rt, workers, stop)?;
     meter.has_run(Tally::of_workers(workers, &run));
     write_report(sink, &run)?;
     Ok(Status::Done)
