@@ -1,7 +1,8 @@
 #!/usr/bin/env python3
-"""PHOLD in Python, apart from the proved program: the report that `twarp-phold seq` is to write.
+"""PHOLD in Python, apart from the proved program: the report that `twarp-phold seq` and `twarp-phold run` are to write.
 
-    phold.py                     runs the built program at measures of several kinds, and compares what it writes
+    phold.py                     runs the built program at measures of several kinds, on one thread and by several numbers
+                                 of workers, and compares what it writes
     phold.py report [OPTION ..]  the report, by the same options as the program's
 
 It follows docs/FORMATS.md, and shares no line with the crates. crates/twarp_phold/stdout is what it writes at
@@ -11,6 +12,7 @@ from __future__ import annotations
 
 import argparse
 import heapq
+import re
 import subprocess
 import sys
 from collections.abc import Iterator
@@ -29,6 +31,14 @@ TRIALS = (
     "--processes 64 --remote 0 --stop 150 --seed 0",
     "--stop 120",
     "--lookahead 5 --longest 4 --stop 10",
+)
+# Of some of them there are more than processes.
+WORKERS = 1, 2, 3, 7
+WAYS = "seq", "run", *(f"run --workers {count}" for count in WORKERS)
+# What `--stats` tells of a run by workers, in this order.
+FIGURES = re.compile(
+    r"workers (\d+)\nrounds \d+\nhandled (\d+)\nundone (\d+)\ncommitted (\d+)\nefficiency [01]\.\d{4}\nmessages \d+\n"
+    r"antimessages \d+\nseconds-running \d+\.\d{6}\nseconds-writing \d+\.\d{6}\nevents-per-second \d+\n"
 )
 
 
@@ -102,18 +112,42 @@ def text_of(given: argparse.Namespace) -> str:
     return "".join(f"{line}\n" for line in report(given))
 
 
+def ran(words: str) -> subprocess.CompletedProcess[str]:
+    return subprocess.run([PHOLD, *words.split()], capture_output=True, text=True, check=False)
+
+
+def is_right(way: str, trial: str, own: str) -> bool:
+    """Whether a run that is made so writes the report, with the status that is due."""
+    ended = ran(f"{way} {trial}")
+    return ended.stdout == own and ended.returncode == own.startswith("refused")
+
+
+def tells_figures(workers: int, trial: str, own: str) -> bool:
+    """Whether `--stats` tells of a run what holds of it, and leaves its report as it is."""
+    ended = ran(f"run --workers {workers} --stats {trial}")
+    told = FIGURES.fullmatch(ended.stderr)
+    if told is None or ended.stdout != own:
+        return False
+    threads, handled, undone, committed = map(int, told.groups())
+    events = sum(int(count) for count in re.findall(r" handled (\d+)", own))
+    return threads == workers and handled - undone == committed == events
+
+
 def main() -> int:
     if sys.argv[1:2] == ["report"]:
         sys.stdout.write(text_of(options_of(sys.argv[2:])))
         return 0
-    failed = 0
+    told = []
     for trial in TRIALS:
-        ended = subprocess.run([PHOLD, "seq", *trial.split()], stdout=subprocess.PIPE, text=True, check=False)
         own = text_of(options_of(trial.split()))
-        is_same = ended.stdout == own and ended.returncode == own.startswith("refused")
-        print("passed" if is_same else "FAILED", trial)
-        failed += not is_same
-    print(f"{len(TRIALS) - failed} passed, {failed} failed")
+        told += [(f"{way} {trial}", is_right(way, trial, own)) for way in WAYS]
+    trial = TRIALS[-2]
+    own = text_of(options_of(trial.split()))
+    told.append((f"run --stats {trial}", tells_figures(3, trial, own)))
+    for words, passed in told:
+        print("passed" if passed else "FAILED", words)
+    failed = sum(not passed for _, passed in told)
+    print(f"{len(told) - failed} passed, {failed} failed")
     return min(failed, 1)
 
 

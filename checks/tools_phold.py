@@ -8,7 +8,7 @@ from pathlib import Path
 from tools_common import Done, ToolTest, need_phold, need_program, run, tool
 from tools_install import completed, files_of, install
 
-# The options of twarp-phold seq, from docs/FORMATS.md.
+# The options of twarp-phold seq, from docs/FORMATS.md; twarp-phold run has one more.
 OPTIONS = {
     "--processes", "--population", "--lookahead", "--longest", "--remote", "--seed", "--stop", "--stats"
 }
@@ -57,18 +57,20 @@ class Installed(ToolTest):
         page = self.assert_done(self.manual("man"))
         self.assertRegex(page, r"^\.TH TWARP-PHOLD 1 ")
         shown = re.sub(r"\\f[BRI]|\\&", "", page).replace("\\-", "-").replace("\\e", "\\")
-        for words in ["--help"], ["seq", "--help"]:
+        for words in ["--help"], ["seq", "--help"], ["run", "--help"]:
             for line in run(need_phold(), *words).out.splitlines():
                 if not re.match(r"(Usage: |Commands:|Options:|Exit status:|  |-h)", line):
                     with self.subTest(words, line=line):
                         # The first line stands in NAME, with a small letter.
                         self.assertIn(re.sub("`([^`]*)`", r"\1", line).rstrip(".")[1:], shown)
-        self.assertRegex(page, r"(?m)^\.SS twarp\\-phold seq")
+        for command in "seq", "run":
+            self.assertRegex(page, rf"(?m)^\.SS twarp\\-phold {command}")
 
     def test_completions(self) -> None:
         script = self.assert_done(self.manual("bash"))
-        self.assertGreaterEqual(completed(script, "twarp-phold "), {"seq", "--help", "--version"})
+        self.assertGreaterEqual(completed(script, "twarp-phold "), {"seq", "run", "--help", "--version"})
         self.assertGreaterEqual(completed(script, "twarp-phold seq "), OPTIONS)
+        self.assertGreaterEqual(completed(script, "twarp-phold run "), OPTIONS | {"--workers"})
         self.assertEqual(completed(script, "twarp-phold seq --pop"), {"--population"})
         for shell in "zsh", "fish":
             self.assertRegex(self.assert_done(self.manual(shell)), r"\bpopulation\b")

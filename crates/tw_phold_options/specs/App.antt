@@ -1,8 +1,8 @@
 -- The commands and options of `twarp-phold`, in the words of the parser's contracts. Own.
 use Rattle.std.specs.Prelude.{false, true, codes}
-use Rattle.clap.specs.Words.{App, Rule, new_app, with_rule, with_subcommand}
+use Rattle.clap.specs.Words.{App, Rule, Text, new_app, with_rule, with_subcommand}
 use Rattle.tw_options.specs.App.{flag_rule, number_rule, program_app}
-use Rattle.tw_phold_options.specs.declared.numbers.TheConstants.{MOST_DELAY, MOST_POPULATION, MOST_PROCESSES, MOST_SEED, MOST_STOP, WHOLE}
+use Rattle.tw_phold_options.specs.declared.numbers.TheConstants.{MOST_DELAY, MOST_POPULATION, MOST_PROCESSES, MOST_SEED, MOST_STOP, MOST_WORKERS, WHOLE}
 
 -- `--processes N`: how many processes there are
 abbrev pub processes_rule : Rule
@@ -32,18 +32,30 @@ seed_rule = number_rule (codes "seed") false 0 MOST_SEED
 abbrev pub stop_rule : Rule
 stop_rule = number_rule (codes "stop") true 1 MOST_STOP
 
+-- `--workers N`: how many threads there are at most
+abbrev pub workers_rule : Rule
+workers_rule = number_rule (codes "workers") false 1 MOST_WORKERS
+
 -- `--stats`: what was counted and how long it took is told on standard error
 abbrev pub stats_rule : Rule
 stats_rule = flag_rule (codes "stats")
 
--- `twarp-phold seq` with the options that say how jobs go on
-abbrev pub measured_app : App
-measured_app = with_rule (with_rule (with_rule (with_rule (new_app (codes "seq")) processes_rule) population_rule) lookahead_rule) longest_rule
+-- a command of this name with the options that say how many jobs there are and how long they take
+abbrev pub measured_app : Text → App
+measured_app name = with_rule (with_rule (with_rule (with_rule (new_app name) processes_rule) population_rule) lookahead_rule) longest_rule
+
+-- a command of this name with the options that say which PHOLD is run, and how far
+abbrev pub asking_app : Text → App
+asking_app name = with_rule (with_rule (with_rule (measured_app name) remote_rule) seed_rule) stop_rule
 
 -- `twarp-phold seq --stop N [--processes N] [--population N] [--lookahead N] [--longest N] [--remote N] [--seed N] [--stats]`
 abbrev pub seq_app : App
-seq_app = with_rule (with_rule (with_rule (with_rule measured_app remote_rule) seed_rule) stop_rule) stats_rule
+seq_app = with_rule (asking_app (codes "seq")) stats_rule
 
--- `twarp-phold` with its subcommand
+-- `twarp-phold run`, with the options of `seq` and [--workers N]
+abbrev pub run_app : App
+run_app = with_rule (with_rule (asking_app (codes "run")) workers_rule) stats_rule
+
+-- `twarp-phold` with its subcommands
 abbrev pub phold_app : App
-phold_app = with_subcommand (program_app (codes "twarp-phold")) seq_app.top
+phold_app = with_subcommand (with_subcommand (program_app (codes "twarp-phold")) seq_app.top) run_app.top

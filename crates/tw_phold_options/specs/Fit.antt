@@ -1,11 +1,11 @@
 -- What the parser lets through. Own.
-use Rattle.std.specs.Prelude.{◌≡◌, List, Option, codes}
+use Rattle.std.specs.Prelude.{◌≡◌, ◌⊎◌, List, Option, codes}
 use Rattle.clap.specs.Words.{Row, Text}
 use Rattle.tw_options.specs.Fit.{HasNumber, HasNumberIfGiven, IsFound}
-use Rattle.tw_phold_options.specs.declared.numbers.TheConstants.{MOST_DELAY, MOST_POPULATION, MOST_PROCESSES, MOST_SEED, MOST_STOP, WHOLE}
+use Rattle.tw_phold_options.specs.declared.numbers.TheConstants.{MOST_DELAY, MOST_POPULATION, MOST_PROCESSES, MOST_SEED, MOST_STOP, MOST_WORKERS, WHOLE}
 
--- the numbers that `seq` takes
-pub record HasSeq (rows : List Row) : Type 0 where
+-- the numbers that say which PHOLD is run, and how far
+pub record HasPhold (rows : List Row) : Type 0 where
   pub processes : HasNumberIfGiven (codes "processes") 1 MOST_PROCESSES rows
   pub population : HasNumberIfGiven (codes "population") 0 MOST_POPULATION rows
   pub lookahead : HasNumberIfGiven (codes "lookahead") 1 MOST_DELAY rows
@@ -14,11 +14,12 @@ pub record HasSeq (rows : List Row) : Type 0 where
   pub seed : HasNumberIfGiven (codes "seed") 0 MOST_SEED rows
   pub stop : HasNumber (codes "stop") 1 MOST_STOP rows
 
--- the subcommand was matched, with each option that it requires
+-- a subcommand of ours was matched, with each option that it requires
 pub record Fits (name : Text) (rows : List Row) : Type 0 where
-  pub known : name ≡ codes "seq"
-  pub seq : HasSeq rows
+  pub known : (name ≡ codes "seq") ⊎ (name ≡ codes "run")
+  pub phold : HasPhold rows
+  pub workers : name ≡ codes "run" → HasNumberIfGiven (codes "workers") 1 MOST_WORKERS rows
 
--- the subcommand was matched, and fits
+-- a subcommand was matched, and fits
 abbrev pub IsFit : Option (Text × List Row) → Type 0
 IsFit = IsFound Fits

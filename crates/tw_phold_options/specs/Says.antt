@@ -2,11 +2,13 @@
 use Rattle.std.specs.Prelude.{◌≡◌, List, Option, Some, None, codes}
 use Rattle.clap.specs.Words.{Row, Text}
 use Rattle.tw_options.specs.Says.{IsNumberGiven, IsNumberOr, Sets}
+use Rattle.tw_phold_options.specs.declared.command_line.By.{By}
+use Rattle.tw_phold_options.specs.declared.command_line.By.TheVariants.{OneThread, Workers}
 use Rattle.tw_phold_options.specs.declared.command_line.CommandLine.{CommandLine}
-use Rattle.tw_phold_options.specs.declared.numbers.TheConstants.{LONGEST_IF_NONE, LOOKAHEAD_IF_NONE, MOST_DELAY, MOST_POPULATION, MOST_PROCESSES, MOST_SEED, MOST_STOP, POPULATION_IF_NONE, PROCESSES_IF_NONE, REMOTE_IF_NONE, SEED_IF_NONE, WHOLE}
+use Rattle.tw_phold_options.specs.declared.numbers.TheConstants.{LONGEST_IF_NONE, LOOKAHEAD_IF_NONE, MOST_DELAY, MOST_POPULATION, MOST_PROCESSES, MOST_SEED, MOST_STOP, POPULATION_IF_NONE, PROCESSES_IF_NONE, REMOTE_IF_NONE, SEED_IF_NONE, MOST_WORKERS, WORKERS_IF_NONE, WHOLE}
 
 -- the command line has the numbers that were given, or what is there where none was
-pub record SaysSeq (rows : List Row) (line : CommandLine) : Type 0 where
+pub record SaysPhold (rows : List Row) (line : CommandLine) : Type 0 where
   pub processes : IsNumberOr (codes "processes") 1 MOST_PROCESSES PROCESSES_IF_NONE rows line.processes
   pub population : IsNumberOr (codes "population") 0 MOST_POPULATION POPULATION_IF_NONE rows line.population
   pub lookahead : IsNumberOr (codes "lookahead") 1 MOST_DELAY LOOKAHEAD_IF_NONE rows line.lookahead
@@ -16,7 +18,12 @@ pub record SaysSeq (rows : List Row) (line : CommandLine) : Type 0 where
   pub stop : IsNumberGiven (codes "stop") 1 MOST_STOP rows line.stop
   pub stats : Sets (codes "stats") rows line.stats
 
--- the command line is the subcommand that was matched
+-- who runs it is the subcommand that was matched, with the workers that were given, or those that are there where none were
+abbrev pub SaysBy : Text → List Row → By → Type 0
+SaysBy name rows OneThread = name ≡ codes "seq"
+SaysBy name rows (Workers n) = (name ≡ codes "run") × IsNumberOr (codes "workers") 1 MOST_WORKERS WORKERS_IF_NONE rows n
+
+-- the command line is what was matched
 abbrev pub Says : Option (Text × List Row) → CommandLine → Type 0
 Says None line = ⊥
-Says (Some found) line = (found.0 ≡ codes "seq") × SaysSeq found.1 line
+Says (Some found) line = SaysBy found.0 found.1 line.by × SaysPhold found.1 line

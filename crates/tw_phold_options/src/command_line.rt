@@ -1,18 +1,30 @@
 //! What a command line asks for.
 
-ghost use Rattle.std.specs.Prelude.{◌≡◌, ◌≤◌, Some, codes};
+ghost use Rattle.std.specs.Prelude.{◌≡◌, codes};
 ghost use Rattle.clap.specs.Words.{found_of, rows_of, subcommand_rows_of};
-ghost use Rattle.tw_phold_options.specs.Fit.{HasSeq, IsFit};
-ghost use Rattle.tw_phold_options.specs.Says.{Says};
+ghost use Rattle.tw_options.specs.Fit.{HasNumberIfGiven};
+ghost use Rattle.tw_phold_options.specs.Fit.{HasPhold, IsFit};
+ghost use Rattle.tw_phold_options.specs.Says.{Says, SaysBy, SaysPhold};
+ghost use Rattle.tw_phold_options.specs.declared.numbers.TheConstants.{MOST_WORKERS};
 
 use crate::flag::STATS;
 use crate::numbers::{
     LONGEST, LONGEST_IF_NONE, LOOKAHEAD, LOOKAHEAD_IF_NONE, POPULATION, POPULATION_IF_NONE,
-    PROCESSES, PROCESSES_IF_NONE, REMOTE, REMOTE_IF_NONE, SEED, SEED_IF_NONE, STOP,
+    PROCESSES, PROCESSES_IF_NONE, REMOTE, REMOTE_IF_NONE, SEED, SEED_IF_NONE, STOP, WORKERS,
+    WORKERS_IF_NONE,
 };
 use clap::ArgMatches;
 
-/// What a command line asks for: the run of PHOLD on one thread. Times are in ticks.
+/// Who runs PHOLD.
+#[derive(Clone, Copy, PartialEq, Eq, Debug)]
+pub enum By {
+    /// One thread, which handles all jobs in their order.
+    OneThread,
+    /// As many threads at most, from 1 to 64, in which processes run ahead of one another.
+    Workers(u32),
+}
+
+/// What a command line asks for: a run of PHOLD. Times are in ticks.
 #[derive(Clone, Copy, PartialEq, Eq, Debug)]
 pub struct CommandLine {
     /// How many processes there are, from 1 to 1,000,000.
@@ -29,6 +41,8 @@ pub struct CommandLine {
     pub seed: u64,
     /// The time before which jobs are handled, from 1 to 1,000,000,000.
     pub stop: u64,
+    /// Who runs it.
+    pub by: By,
     /// Whether what was counted and how long it took is told.
     pub stats: bool,
 }
@@ -38,13 +52,19 @@ pub(crate) fn command_line_of(matches: &ArgMatches<'_>) -> CommandLine
     requires { IsFit (subcommand_rows_of matches.now) }
     ensures { Says (subcommand_rows_of matches.now) result }
 {
-    let (_, given) = matches.subcommand().unwrap();
-    seq_of(given)
+    let (name, given) = matches.subcommand().unwrap();
+    match name {
+        "seq" => phold_by(given, By::OneThread),
+        "run" => phold_by(given, workers_of(given)),
+        _ => unreachable!(),
+    }
 }
 
-fn seq_of(given: &ArgMatches<'_>) -> CommandLine
-    requires { HasSeq (rows_of (found_of given.now)) }
-    ensures { Says (Some (codes "seq", rows_of (found_of given.now))) result }
+/// The command line that asks for the PHOLD that is given, to be run so.
+fn phold_by(given: &ArgMatches<'_>, by: By) -> CommandLine
+    requires { HasPhold (rows_of (found_of given.now)) }
+    ensures phold { SaysPhold (rows_of (found_of given.now)) result }
+    ensures by { result.by ≡ by }
 {
     CommandLine {
         processes: PROCESSES.read_or(given, PROCESSES_IF_NONE) as u32,
@@ -54,6 +74,15 @@ fn seq_of(given: &ArgMatches<'_>) -> CommandLine
         remote: REMOTE.read_or(given, REMOTE_IF_NONE) as u32,
         seed: SEED.read_or(given, SEED_IF_NONE),
         stop: STOP.read(given),
+        by,
         stats: STATS.is_set(given),
     }
+}
+
+/// The workers that are given, or those that are there where none are.
+fn workers_of(given: &ArgMatches<'_>) -> By
+    requires { HasNumberIfGiven (codes "workers") 1 MOST_WORKERS (rows_of (found_of given.now)) }
+    ensures { SaysBy (codes "run") (rows_of (found_of given.now)) result }
+{
+    By::Workers(WORKERS.read_or(given, WORKERS_IF_NONE) as u32)
 }

@@ -18,7 +18,8 @@ Each process begins with as many jobs as the others. A job that comes to a proce
 a random delay, to a process that is drawn, or it stays.
 
 Example:
-  twarp-phold seq --processes 64 --stop 1000";
+  twarp-phold seq --processes 64 --stop 1000
+  twarp-phold run --processes 64 --stop 1000 --workers 2";
 
 pub(crate) const SEQ: Page = Page {
     name: "seq",
@@ -37,10 +38,24 @@ The report is
   process 0 handled 312     how many of them came to a process
   checksum 123              one word that is made of the states of all processes
 
-A run by several threads is not there yet: the parallel engine is that of `twarp` alone.
-
 Example:
   twarp-phold seq --processes 64 --stop 1000";
+
+pub(crate) const RUN: Page = Page {
+    name: "run",
+    about: "Runs PHOLD in several threads, and writes the same report",
+    long_about: RUN_LONG,
+    statuses: STATUSES,
+};
+
+const RUN_LONG: &str = "\
+Runs PHOLD in several threads, and writes the same report.
+
+Each process runs ahead of the others, and goes back where a job comes late (Time Warp). The
+report is that of `twarp-phold seq`, to the byte, however many threads there are.
+
+Example:
+  twarp-phold run --processes 64 --stop 1000 --workers 2";
 
 pub(crate) const PROCESSES: &str = "How many processes there are: 1 to 1000000, or else 1024";
 
@@ -57,6 +72,9 @@ pub(crate) const REMOTE: &str =
 pub(crate) const SEED: &str = "What all random words come from: 0 to 1000000000, or else 1";
 
 pub(crate) const STOP: &str = "Handles jobs before this time, in ticks: 1 to 1000000000";
+
+pub(crate) const WORKERS: &str =
+    "How many threads handle jobs at the same time, at most: 1 to 64, or else 4";
 
 pub(crate) const STATS: &str =
     "Tells on standard error what was counted and how long it took, each by its name";

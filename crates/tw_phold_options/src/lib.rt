@@ -1,4 +1,4 @@
-//! The command line of the program `twarp-phold`: what its words ask for, with which numbers.
+//! The command line of the program `twarp-phold`: which run its words ask for, by whom, and with which numbers.
 //!
 //! It is parsed as `tw_options` parses that of `twarp`, whose number options, faults and lemmas it takes: clap parses
 //! the words, contracts see the command that clap is given as the `App` that `specs/App` writes out, and `specs/Says`
@@ -23,8 +23,8 @@ mod help;
 mod numbers;
 
 use command::twarp_phold;
-pub use command_line::CommandLine;
 use command_line::command_line_of;
+pub use command_line::{By, CommandLine};
 use std::alloc::Global;
 use std::convert::AsStr;
 use tw_options::CommandLineFault;

@@ -15,6 +15,8 @@ pub(crate) const WHOLE: u64 = 1_000;
 pub(crate) const MOST_SEED: u64 = 1_000_000_000;
 /// The greatest stop, in ticks.
 pub(crate) const MOST_STOP: u64 = 1_000_000_000;
+/// How many workers there may be.
+pub(crate) const MOST_WORKERS: u64 = 64;
 
 pub(crate) const PROCESSES_IF_NONE: u64 = 1_024;
 
@@ -27,6 +29,8 @@ pub(crate) const LONGEST_IF_NONE: u64 = 100;
 pub(crate) const REMOTE_IF_NONE: u64 = 1_000;
 
 pub(crate) const SEED_IF_NONE: u64 = 1;
+
+pub(crate) const WORKERS_IF_NONE: u64 = 4;
 
 pub(crate) const PROCESSES: NumberOption = NumberOption {
     id: "processes",
@@ -96,4 +100,14 @@ pub(crate) const STOP: NumberOption = NumberOption {
     most: MOST_STOP,
     help: help::STOP,
     long_help: help::STOP,
+};
+
+pub(crate) const WORKERS: NumberOption = NumberOption {
+    id: "workers",
+    value_name: "COUNT",
+    is_required: false,
+    least: 1,
+    most: MOST_WORKERS,
+    help: help::WORKERS,
+    long_help: help::WORKERS,
 };

@@ -4,7 +4,9 @@ use Rattle.tw_event.specs.declared.event.Event.{Event}
 use Rattle.tw_model.specs.Case.{Case, simulation}
 use Rattle.tw_model.specs.State.{Router, State}
 use Rattle.tw_routing.specs.Routing.{IsRouterOf}
-use Rattle.tw_routing_run.specs.Ending.{GetsStuck, router_after}
+use Rattle.tw_rounds.specs.Warp.{HasRun, IsOpening, IsRight, Warp}
+use Rattle.tw_rounds.specs.Warp as warp
+use Rattle.tw_routing_run.specs.Ending.{GetsStuck, IsComplete, IsHeldUp, router_after}
 use Rattle.tw_sequential.specs.Run.{IsBegun, IsStuck, Run, complete_run, opening_run}
 use Rattle.tw_sim.specs.Simulation.{Simulation, only, state}
 
@@ -36,3 +38,28 @@ module _ (sim : Case → Simulation State Event) (case : Case) (same : sim case 
   pub is_router : (r : ℕ) (router : Router) (log : List Event) → IsRouterOf case r router → router.state ≡ state (sim case) r (only (sim case) r log)
       → router ≡ router_after case log r
   is_router r router log own known = λ i. record { net = own.net i; node = own.node i; state = (known ∙ ap (λ m. state m r (only m r log)) same) i }
+
+  -- a run in threads that was opened and has come to its stop
+  pub completed_there : (stop : ℕ) (opened ended : Warp Case Event) → IsOpening (sim case) case opened → ended.model ≡ opened.model → ended.stop ≡ max opened.stop stop
+      → ended.bound ≡ ended.stop → HasRun (sim opened.model) ended → IsComplete case stop ended
+  completed_there stop opened ended from model to there has_run =
+      let most : max 0 stop ≡ stop = omega arith in
+      record {
+        own = model ∙ from.same;
+        to_stop = to ∙ (ap (λ x. max x stop) from.stop ∙ most);
+        there = there;
+        has_run = subst (λ m. HasRun m ended) (ap sim from.same ∙ same) has_run;
+      }
+
+  -- a run in threads that was opened and does not come to its stop, since a counter is full
+  pub held_up_there : (stop : ℕ) (opened ended : Warp Case Event) → IsOpening (sim case) case opened → ended.model ≡ opened.model → ended.stop ≡ max opened.stop stop
+      → IsRight (sim opened.model) ended → warp.IsStuck (sim opened.model) ended → IsHeldUp case stop
+  held_up_there stop opened ended from model to right stuck =
+      let most : max 0 stop ≡ stop = omega arith in
+      record {
+        run = ended;
+        own = model ∙ from.same;
+        to_stop = to ∙ (ap (λ x. max x stop) from.stop ∙ most);
+        right = subst (λ m. IsRight m ended) (ap sim from.same ∙ same) right;
+        stuck = subst (λ m. warp.IsStuck m ended) (ap sim from.same ∙ same) stuck;
+      }

@@ -1,2 +1,3 @@
 pub mod Runnable
 pub mod Pages
+pub mod Ends

@@ -1,2 +1,3 @@
+pub mod Cause
 pub mod Report
 pub mod Due

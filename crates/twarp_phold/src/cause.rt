@@ -1,11 +1,13 @@
 //! How the program ends, and why it stops.
 
 ghost use Rattle.std.specs.Prelude.{◌≡◌};
+ghost use Rattle.twarp_phold.specs.Cause.{cause_of};
 ghost use Rattle.twarp_phold.specs.declared.cause.Cause.TheVariants.{Device, Memory};
 
 use std::alloc::AllocError;
 use thiserror::Error;
 use tw_device::Failed;
+use tw_process::Refused;
 
 /// Why the program stopped before its answer was written.
 #[derive(Clone, Copy, PartialEq, Eq, Debug, Error)]
@@ -34,6 +36,17 @@ impl From<Failed> for Cause {
 
     fn from(_: Failed) -> Cause {
         Cause::Device
+    }
+}
+
+impl From<Refused> for Cause {
+    ghost from_gives = { λ refused cause. cause ≡ cause_of refused };
+
+    fn from(refused: Refused) -> Cause {
+        match refused {
+            Refused::CounterFull => Cause::CounterFull,
+            Refused::Memory => Cause::Memory,
+        }
     }
 }
 

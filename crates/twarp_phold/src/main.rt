@@ -1,16 +1,19 @@
-//! The program `twarp-phold`: runs PHOLD, the usual workload of parallel simulators, on one thread.
+//! The program `twarp-phold`: runs PHOLD, the usual workload of parallel simulators, on one thread or in several.
 //!
 //! `main` reads the command line, opens standard output, and ends with an exit status: 0 where it is done, 1 where an
 //! option is refused for another, 2 where it stopped, 3 where the line is no command line. Proved: what `perform` writes
-//! is the report of the sequential run of the PHOLD that the command line asks for, for any sink, and each way in which
-//! it ends has its exit status; what the words of the command line ask for is `tw_phold_options`'s. Not proved: where
+//! is the report of the sequential run of the PHOLD that the command line asks for, for any sink and any number of
+//! threads, and each way in which it ends has its exit status; what the words of the command line ask for is `tw_phold_options`'s. Not proved: where
 //! status 3 comes, and what stands on standard error.
 #![tactic(auto)]
 
 mod cause;
+mod ended;
+mod figures;
 mod meter;
 mod perform;
 mod report;
+mod tally;
 
 ghost use Rattle.std.specs.Prelude.{◌≡◌, ◌≤◌};
 ghost use Rattle.tw_process.specs.declared.limits.TheConstants.{LATEST};
@@ -23,6 +26,8 @@ use perform::perform;
 use std::env;
 use std::io::{self, BufWriter, Write};
 use std::process::ExitCode;
+use std::sync::Wait;
+use std::thread::Threads;
 use std::time::Clock;
 use tw_device::OverWrite;
 use tw_options::CommandLineFault;
@@ -60,7 +65,10 @@ fn main(rt: HostRuntime) -> ExitCode {
 }
 
 /// Does what the line asks.
-fn run<R: Print + Eprint + AllocGlobal + Clock>(rt: &R, line: CommandLine) -> ExitCode
+fn run<R: Print + Eprint + AllocGlobal + Threads + Wait + Sync + Clock>(
+    rt: &R,
+    line: CommandLine,
+) -> ExitCode
     requires { line.stop ≤ LATEST }
 {
     let (ended, failure) = answer(rt, line);
@@ -82,7 +90,7 @@ fn exit_with(rt: &impl Eprint, ended: Result<Status, Cause>, failure: Option<io:
 
 /// Writes the answer to standard output, and what was counted to standard error, where that is asked for. Where standard
 /// output failed it is told beside that.
-fn answer<R: Print + Eprint + AllocGlobal + Clock>(
+fn answer<R: Print + Eprint + AllocGlobal + Threads + Wait + Sync + Clock>(
     rt: &R,
     line: CommandLine,
 ) -> (Result<Status, Cause>, Option<io::Error>)
@@ -94,7 +102,7 @@ fn answer<R: Print + Eprint + AllocGlobal + Clock>(
         Err(_) => return (Err(Cause::Memory), None),
     });
     let meter = Meter::new(rt);
-    match perform(alloc, line, &mut sink, &meter) {
+    match perform(rt, alloc, line, &mut sink, &meter) {
         Ok(status) => match sink.into_writer().flush() {
             Ok(()) => {
                 if line.stats && status == Status::Done {

@@ -1,19 +1,17 @@
-//! What `--stats` tells of a run. It stands on standard error, and no promise rests on it.
+//! When a run began and when it was over. No promise rests on it.
 
+use crate::figures::Figures;
+use crate::tally::Tally;
 use std::cell::Cell;
-use std::fmt::{self, Display, Formatter};
 use std::time::Clock;
 
-/// Parts of a second.
-const NANOS: u64 = 1_000_000_000;
-
-/// When a run began and when it was over, by a clock, and how many events it handled.
+/// When a run began and when it was over, by a clock, and what it has done.
 #[derive(Drop)]
 pub(crate) struct Meter<'r, R> {
     clock: &'r R,
     begun: u64,
     ran: Cell<u64>,
-    handled: Cell<u64>,
+    tally: Cell<Tally>,
 }
 
 impl<'r, R: Clock> Meter<'r, R> {
@@ -24,62 +22,24 @@ impl<'r, R: Clock> Meter<'r, R> {
             clock,
             begun,
             ran: Cell::new(begun),
-            handled: Cell::new(0),
+            tally: Cell::new(Tally::default()),
         }
     }
 
-    /// The run is at its stop, and has handled so many events.
-    pub(crate) fn has_run(&self, handled: u64) {
+    /// The run is at its stop, and has done this.
+    pub(crate) fn has_run(&self, tally: Tally) {
         self.ran.set(nanos(self.clock));
-        self.handled.set(handled);
+        self.tally.set(tally);
     }
 
     /// What was counted, now that the report is written.
     pub(crate) fn figures(&self) -> Figures {
         let ran = self.ran.get();
         Figures {
-            handled: self.handled.get(),
+            tally: self.tally.get(),
             running: ran.saturating_sub(self.begun),
             writing: nanos(self.clock).saturating_sub(ran),
         }
-    }
-}
-
-/// What was counted of a run, line by line: a name and a number each. Times are in nanoseconds.
-#[derive(Clone, Copy)]
-pub(crate) struct Figures {
-    handled: u64,
-    running: u64,
-    writing: u64,
-}
-
-impl Figures {
-    /// How many events were handled in a second of running.
-    fn per_second(&self) -> u128 {
-        let running = u128::from(self.running.max(1));
-        u128::from(self.handled).saturating_mul(u128::from(NANOS)) / running
-    }
-}
-
-impl Display for Figures {
-    fn fmt<W: fmt::Write>(&self, f: &mut Formatter<W>) -> fmt::Result {
-        writeln!(f, "workers 1")?;
-        writeln!(f, "handled {}", self.handled)?;
-        writeln!(f, "committed {}", self.handled)?;
-        writeln!(f, "seconds-running {}", Seconds(self.running))?;
-        writeln!(f, "seconds-writing {}", Seconds(self.writing))?;
-        writeln!(f, "events-per-second {}", self.per_second())
-    }
-}
-
-/// Nanoseconds, told in seconds with six places.
-#[derive(Clone, Copy)]
-struct Seconds(u64);
-
-impl Display for Seconds {
-    fn fmt<W: fmt::Write>(&self, f: &mut Formatter<W>) -> fmt::Result {
-        let micros = self.0 % NANOS / 1_000;
-        write!(f, "{}.{micros:06}", self.0 / NANOS)
     }
 }
 

@@ -2,18 +2,18 @@
 
 ghost use Rattle.std.specs.Prelude.{◌≡◌, ◌<◌, false};
 ghost use Rattle.tw_device.specs.Sink.{Puts};
-ghost use Rattle.twarp_phold.specs.Report.{checksum_after, process_line, process_lines, refused_text, text_after};
+ghost use Rattle.twarp_phold.specs.Report.{checksum_at, process_line, process_lines, refused_text, report_text};
 
+use crate::ended::Ended;
 use tw_device::{Failed, Sink};
-use tw_phold::Phold;
 use tw_report::Word::{Name, Number};
 use tw_report::put_line;
-use tw_sequential::Sequential;
 
 /// Writes the report of a run: how many jobs each process has handled, and a checksum of all states. Takes no memory.
-pub(crate) fn write_report<S: Sink>(sink: &mut S, run: &Sequential<'_, Phold>) -> Result<(), Failed>
-    requires { S.failed sink.old ≡ false }
-    ensures { Puts result (S.written sink.old) (S.written sink.new) (S.failed sink.new) (text_after run.now.model run.now.stop run.now.log) }
+pub(crate) fn write_report<S: Sink, E: Ended>(sink: &mut S, run: &E) -> Result<(), Failed>
+    requires open { S.failed sink.old ≡ false }
+    requires complete { E.is_complete run.now }
+    ensures { Puts result (S.written sink.old) (S.written sink.new) (S.failed sink.new) (report_text (E.phold run.now) (E.end run.now)) }
 {
     put_line(sink, &[Name("phold-report"), Name("1")])?;
     put_line(sink, &[Name("stop"), Number(run.stop())])?;
@@ -30,9 +30,10 @@ pub(crate) fn write_refused<S: Sink>(sink: &mut S) -> Result<(), Failed>
 }
 
 /// Puts the line of each process.
-fn put_processes<S: Sink>(sink: &mut S, run: &Sequential<'_, Phold>) -> Result<(), Failed>
-    requires { S.failed sink.old ≡ false }
-    ensures { Puts result (S.written sink.old) (S.written sink.new) (S.failed sink.new) (process_lines run.now.model run.now.log) }
+fn put_processes<S: Sink, E: Ended>(sink: &mut S, run: &E) -> Result<(), Failed>
+    requires open { S.failed sink.old ≡ false }
+    requires complete { E.is_complete run.now }
+    ensures { Puts result (S.written sink.old) (S.written sink.new) (S.failed sink.new) (process_lines (E.phold run.now) (E.end run.now)) }
 {
     for number in 0..run.model().processes {
         put_process(sink, run, number)?;
@@ -41,14 +42,11 @@ fn put_processes<S: Sink>(sink: &mut S, run: &Sequential<'_, Phold>) -> Result<(
 }
 
 /// Puts the line of a process.
-fn put_process<S: Sink>(
-    sink: &mut S,
-    run: &Sequential<'_, Phold>,
-    number: u32,
-) -> Result<(), Failed>
+fn put_process<S: Sink, E: Ended>(sink: &mut S, run: &E, number: u32) -> Result<(), Failed>
     requires open { S.failed sink.old ≡ false }
-    requires here { number < run.now.model.processes }
-    ensures { Puts result (S.written sink.old) (S.written sink.new) (S.failed sink.new) (process_line run.now.model run.now.log number) }
+    requires complete { E.is_complete run.now }
+    requires here { number < (E.phold run.now).processes }
+    ensures { Puts result (S.written sink.old) (S.written sink.new) (S.failed sink.new) (process_line (E.phold run.now) (E.end run.now) number) }
 {
     let handled = run.state(number).handled;
     put_line(
@@ -63,8 +61,9 @@ fn put_process<S: Sink>(
 }
 
 /// The checksum of the states of all processes.
-fn checksum(run: &Sequential<'_, Phold>) -> u64
-    ensures { result ≡ checksum_after run.now.model run.now.log }
+fn checksum<E: Ended>(run: &E) -> u64
+    requires { E.is_complete run.now }
+    ensures { result ≡ checksum_at (E.phold run.now) (E.end run.now) }
 {
     let mut sum = 0;
     for number in 0..run.model().processes {

@@ -1,20 +1,7 @@
-use Rattle.std.proofs.Common.{Err, max, ap, subst, ◌∙◌, arith, ◌≡◌}
-use Rattle.std.proofs.KnownBytes.{Keeps-refl}
-use Rattle.tw_phold.specs.Phold.{simulation}
-use Rattle.tw_sequential.specs.Run.{Continues, IsStuck}
 use Rattle.twarp_phold.proofs.perform.report.Goals as goal
 
-pub returns-in-Err-CounterFull : goal.returns-in-Err-CounterFull
-returns-in-Err-CounterFull g c =
-    let opened = c.in_ok-run.ensures.value in
-    let told = c.in-Err-CounterFull.ensures in
-    let at_0 : max 0 c.args.stop ≡ c.args.stop = omega arith in (
-      record {
-        run = c.run_to.new.self;
-        to_stop = told.stop ∙ (ap (λ run. max run.stop c.args.stop) opened ∙ at_0);
-        reached = subst (λ run. Continues (simulation run.model) run c.run_to.new.self) opened told.goes_on;
-        stuck = subst (λ run. IsStuck (simulation run.model) c.run_to.new.self) opened (told.full (ap (λ x. Err x) c.in-Err-CounterFull.field-0-is));
-      },
-      Keeps-refl (g.S.Sink.written c.args.sink.now),
-      c.requires.open,
-    )
+pub returns-in-OneThread : goal.returns-in-OneThread
+returns-in-OneThread g c = rw c.in-OneThread.is c.seq.ensures
+
+pub returns-in-Workers : goal.returns-in-Workers
+returns-in-Workers g c = rw c.in-Workers.is c.run.ensures

@@ -5,9 +5,9 @@ use Rattle.twarp_phold.proofs.Pages.{checksum_next}
 use Rattle.twarp_phold.proofs.report.checksum.Goals as goal
 
 pub loop-number-preserved : goal.loop-number-preserved
-loop-number-preserved c =
-    let m = c.args.run.now.model in
-    let jobs = c.args.run.now.log in
+loop-number-preserved g c =
+    let m = g.E.Ended.phold c.args.run.now in
+    let stop = g.E.Ended.end c.args.run.now in
     let r = c.loop-number.number in
     c.mix_into-sum.ensures
-    ∙ (ap (mixed_in c.loop-number.sum) c.state.ensures.known ∙ (ap (λ sum. mixed_in sum (knows m jobs r)) c.loop-number.invariant ∙ sym (checksum_next m jobs r)))
+    ∙ (ap (mixed_in c.loop-number.sum) c.state.ensures ∙ (ap (λ sum. mixed_in sum (knows m stop r)) c.loop-number.invariant ∙ sym (checksum_next m stop r)))

@@ -6,4 +6,4 @@ use Rattle.twarp_phold.proofs.report.checksum.Given as goal
 
 -- the checksum of the states before
 abbrev pub invariant-loop-number : goal.invariant-loop-number
-invariant-loop-number l = l.sum ≡ checksum (map (knows l.run.model l.run.log) (range_with_len 0 l.number))
+invariant-loop-number g l = l.sum ≡ checksum (map (knows (g.E.Ended.phold l.run) (g.E.Ended.end l.run)) (range_with_len 0 l.number))

@@ -8,4 +8,4 @@ use Rattle.twarp_phold.proofs.report.put_processes.Given as goal
 abbrev pub invariant-loop-number : goal.invariant-loop-number
 invariant-loop-number g l =
     (g.S.Sink.failed l.sink ≡ false)
-    × IsPartway (process_lines l.run.model l.run.log) (lines_from l.run.model l.run.log l.number) (g.S.Sink.written l.initial.sink) (g.S.Sink.written l.sink)
+    × IsPartway (process_lines (g.E.Ended.phold l.run) (g.E.Ended.end l.run)) (lines_from (g.E.Ended.phold l.run) (g.E.Ended.end l.run) l.number) (g.S.Sink.written l.initial.sink) (g.S.Sink.written l.sink)
