@@ -1,7 +1,7 @@
 //! How far processes run ahead of the bound, and how many threads take part (own). Nothing here changes what is
 //! computed, only how soon.
 
-ghost use Rattle.std.specs.Prelude.{◌≡◌, ◌<◌, ◌≤◌};
+ghost use Rattle.std.specs.Prelude.{◌<◌, ◌≤◌};
 
 use crate::limits::{LITTLE, MOST_WINDOW, MUCH, WORTH_THREADS};
 
