@@ -1,8 +1,9 @@
 //! A logical process.
 
-ghost use Rattle.std.specs.Prelude.{ℕ, ◌≡◌, ◌<◌, ◌≤◌, ◌↔◌, ◌∷◌, [], false, true, length, max, nat_lt, IfOk, IsErrOf, OnErr, OnOk, Ok, Err};
+ghost use Rattle.std.specs.Prelude.{ℕ, ◌≡◌, ◌<◌, ◌≤◌, ◌↔◌, ◌∷◌, ◌++◌, [], false, true, length, max, nat_lt, slice_get, IfOk, IsErrOf, OnErr, OnOk, Ok, Err};
 ghost use Rattle.std.specs.Bool.{OnFalse};
 ghost use Rattle.std.specs.List.{AllByRecursion};
+ghost use Rattle.std.specs.Option.{option_map};
 ghost use Rattle.std.specs.Result.{result_and};
 ghost use Rattle.tw_core.specs.Steps.{IsRolledBack, after_undoing_while, first_pending, handle, least_time, take_out, undo, with_commit};
 ghost use Rattle.tw_core.specs.declared.refusal.Refusal.{Refusal as AnyRefusal};
@@ -56,6 +57,27 @@ impl<'a, M: ProcessModel> Model for LogicalProcess<'a, M> {
 }
 
 impl<'a, M: ProcessModel> LogicalProcess<'a, M> {
+    /// The process of this number before its opening events: it has handled nothing, and nothing waits for it.
+    pub fn begin(
+        alloc: Global,
+        model: &'a M,
+        number: u32,
+    ) -> Result<LogicalProcess<'a, M>, AllocError>
+        requires { number < (M.behaviour model.now).processes }
+        ensures { IfOk result (λ p. p ≡ record { model = model.now; number = number; ahead = []; past = []; pending = []; kept = []; flight = []; done = 0; bound = 0 }) }
+    {
+        let past = Past::new(alloc, model, number)?;
+        let sends = Vec::with_capacity(alloc, model.most_sends())?;
+        Ok(LogicalProcess {
+            past,
+            pending: Pending::new(alloc),
+            kept: Pending::new(alloc),
+            flight: Vec::new(alloc),
+            sends,
+            bound: 0,
+        })
+    }
+
     /// The process of this number, with the opening events that are for it.
     pub fn open(
         alloc: Global,
@@ -100,6 +122,25 @@ impl<'a, M: ProcessModel> LogicalProcess<'a, M> {
     {
         let alloc = *self.flight.allocator();
         mem::replace(&mut self.flight, Vec::new(alloc))
+    }
+
+    /// Moves the messages and antimessages that it has sent behind `sent`, in the order sent. Where there is no memory
+    /// nothing changes.
+    pub fn move_out(&mut self, sent: &mut Vec<Signed<M::Event>>) -> Result<(), AllocError>
+        ensures ok { OnOk result (sent.new.items ≡ sent.old.items ++ self.old.flight) }
+        ensures rest { OnOk result (self.new ≡ record self.old { flight = [] }) }
+        ensures err { OnErr result (sent.new.items ≡ sent.old.items) }
+        ensures unmoved { OnErr result (self.new ≡ self.old) }
+    {
+        sent.append(&mut self.flight)
+    }
+
+    /// The time of its first pending event, in ticks, if there is one.
+    pub fn next_time(&self) -> Option<u64>
+        ensures { result ≡ option_map M.Event.parts.time (slice_get self.now.pending 0) }
+    {
+        let event = self.pending.least()?;
+        Some(event.time())
     }
 
     /// The bound, in ticks: nothing that comes is before it, and what was handled before it stays.
@@ -300,8 +341,8 @@ impl<'a, M: ProcessModel> LogicalProcess<'a, M> {
         self.past.number()
     }
 
-    /// An event becomes pending.
-    pub(crate) fn add_pending(&mut self, event: M::Event) -> Result<(), AllocError>
+    /// An event becomes pending, as an opening event does. Where there is no memory nothing changes.
+    pub fn add_pending(&mut self, event: M::Event) -> Result<(), AllocError>
         requires own { M.Event.parts.dst event ≡ self.old.number }
         requires suit { (M.behaviour self.old.model).suits event ≡ true }
         ensures ok { let m = simulation_of M.Event.parts M.Event.cmp (M.behaviour self.old.model) in
