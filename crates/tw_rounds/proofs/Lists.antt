@@ -1,6 +1,8 @@
 -- Lists by index (own).
-use Rattle.std.proofs.Common.{◌≡◌, ℕ, zero, suc, ◌-◌, ◌<◌, ◌≤◌, List, [], ◌∷◌, ◌++◌, Some, length, map, remove, set, None, slice_get, refl, ap, subst, take, Result, Ok, Err, OnErr, OnOk, ◌⊎◌, inl, inr, arith}
+use Rattle.std.proofs.Common.{◌≡◌, ℕ, zero, suc, ◌+◌, ◌-◌, ◌<◌, ◌≤◌, List, [], ◌∷◌, ◌++◌, Some, Option, IsSome, ◌↔◌, length, length-append, map, remove, set, None, slice_get, refl, ap, sym, ◌∙◌, subst, take, Result, Ok, Err, OnErr, OnOk, ◌⊎◌, inl, inr, arith}
+use Rattle.std.proofs.lemmas.Bool.{cases_lt}
 use Rattle.std.specs.List.{AllByRecursion}
+use Rattle.std.specs.Option.{option_to_list}
 
 -- what an answer tells, told in other words
 pub on_ok : {T F A B : Type 0} (r : Result T F) → (A → B) → OnOk r A → OnOk r B
@@ -10,6 +12,15 @@ on_ok (Err u) f h = tt
 pub on_err : {T F A B : Type 0} (r : Result T F) → (A → B) → OnErr r A → OnErr r B
 on_err (Ok u) f h = tt
 on_err (Err u) f h = f h
+
+-- what holds of each stop where an answer is given
+pub on_ok_each : {T F B : Type 0} {A : ℕ → Type 0} (r : Result T F) → (((n : ℕ) → A n) → B) → ((n : ℕ) → OnOk r (A n)) → OnOk r B
+on_ok_each (Ok u) f h = f h
+on_ok_each (Err u) f h = tt
+
+pub on_err_each : {T F B : Type 0} {A : ℕ → Type 0} (r : Result T F) → (((n : ℕ) → A n) → B) → ((n : ℕ) → OnErr r (A n)) → OnErr r B
+on_err_each (Ok u) f h = tt
+on_err_each (Err u) f h = f h
 
 module _ {X : Type 0} where
   -- what is within a list's length is there
@@ -31,6 +42,14 @@ module _ {X : Type 0} where
   set_each P (x ∷ xs) zero y new old (suc j) z h = old (suc j) z h
   set_each P (x ∷ xs) (suc i) y new old zero z h = old zero z h
   set_each P (x ∷ xs) (suc i) y new old (suc j) z h = set_each (λ k. P (suc k)) xs i y new (λ k w g. old (suc k) w g) j z h
+
+  -- where one is replaced, what holds of it and of each other
+  pub set_others : (P : ℕ → X → Type 0) (xs : List X) (i : ℕ) (y : X) → P i y → ((j : ℕ) (z : X) → slice_get xs j ≡ Some z → (j ≡ i → ⊥) → P j z) → (j : ℕ) (z : X) → slice_get (set xs i y) j ≡ Some z → P j z
+  set_others P [] i y new old j z h = cc
+  set_others P (x ∷ xs) zero y new old zero z h = (let same : y ≡ z = cc in subst (P 0) same new)
+  set_others P (x ∷ xs) zero y new old (suc j) z h = old (suc j) z h (λ e. omega (arith, e))
+  set_others P (x ∷ xs) (suc i) y new old zero z h = old zero z h (λ e. omega (arith, e))
+  set_others P (x ∷ xs) (suc i) y new old (suc j) z h = set_others (λ k. P (suc k)) xs i y new (λ k w g other. old (suc k) w g (λ e. other (omega (arith, e)))) j z h
 
   pub get_set : (xs : List X) (i : ℕ) (x y : X) → slice_get xs i ≡ Some x → slice_get (set xs i y) i ≡ Some y
   get_set [] i x y h = cc
@@ -93,3 +112,59 @@ module _ {X : Type 0} where
   pub set_seam : (xs : List X) (y z : X) (ys : List X) → set (xs ++ y ∷ ys) (length xs) z ≡ xs ++ z ∷ ys
   set_seam [] y z ys = refl
   set_seam (x ∷ xs) y z ys = ap (λ zs. x ∷ zs) (set_seam xs y z ys)
+
+  -- a list that stands between others: what is there
+  get_front : (xs back : List X) (i : ℕ) (x : X) → slice_get xs i ≡ Some x → slice_get (xs ++ back) i ≡ Some x
+  get_front [] back i y h = cc
+  get_front (x ∷ xs) back zero y h = h
+  get_front (x ∷ xs) back (suc i) y h = get_front xs back i y h
+
+  get_between : (front xs back : List X) (i n : ℕ) (x : X) → n ≡ length front + i → slice_get xs i ≡ Some x → slice_get (front ++ xs ++ back) n ≡ Some x
+  get_between [] xs back i n y is h = (let same : n ≡ i = omega arith in subst (λ k. slice_get (xs ++ back) k ≡ Some y) (sym same) (get_front xs back i y h))
+  get_between (z ∷ front) xs back i zero y is h = absurd (omega arith)
+  get_between (z ∷ front) xs back i (suc n) y is h = get_between front xs back i n y (omega arith) h
+
+  pub get_among : (front xs back : List X) (i : ℕ) (x : X) → slice_get xs i ≡ Some x → slice_get (front ++ xs ++ back) (length front + i) ≡ Some x
+  get_among front xs back i x h = get_between front xs back i (length front + i) x refl h
+
+  -- and one of it replaced
+  set_front : (xs back : List X) (i : ℕ) (y : X) → i < length xs → set (xs ++ back) i y ≡ set xs i y ++ back
+  set_front [] back i y l = absurd (omega arith)
+  set_front (x ∷ xs) back zero y l = refl
+  set_front (x ∷ xs) back (suc i) y l = ap (λ zs. x ∷ zs) (set_front xs back i y (omega arith))
+
+  set_between : (front xs back : List X) (i n : ℕ) (y : X) → n ≡ length front + i → i < length xs → set (front ++ xs ++ back) n y ≡ front ++ set xs i y ++ back
+  set_between [] xs back i n y is l = (let same : n ≡ i = omega arith in subst (λ k. set (xs ++ back) k y ≡ set xs i y ++ back) (sym same) (set_front xs back i y l))
+  set_between (z ∷ front) xs back i zero y is l = absurd (omega arith)
+  set_between (z ∷ front) xs back i (suc n) y is l = ap (λ zs. z ∷ zs) (set_between front xs back i n y (omega arith) l)
+
+  pub set_among : (front xs back : List X) (i : ℕ) (y : X) → i < length xs → set (front ++ xs ++ back) (length front + i) y ≡ front ++ set xs i y ++ back
+  set_among front xs back i y l = set_between front xs back i (length front + i) y refl l
+
+  -- what is left of a list that has a last element, without that
+  pub popped : (xs ys : List X) (r : Option X) (n : ℕ) (x : X) → xs ≡ ys ++ option_to_list r → (IsSome r ↔ (0 < n)) → ys ≡ take (n - 1) xs → slice_get xs (length xs - 1) ≡ Some x → ys ≡ take (length xs - 1) xs
+  popped xs ys (Some y) n x items some rest last =
+      let len : length xs ≡ length ys + 1 = ap length items ∙ length-append ys (y ∷ []) in
+      sym (subst (λ zs. take (length xs - 1) zs ≡ ys) (sym items) (rewritten (length xs - 1) ys (y ∷ []) (omega arith)))
+  popped xs ys None n x items some rest last = elim (cases_lt 0 n) [
+    | inl l ↦ (let told = some.1 l in cc)
+    | inr le ↦
+        let first : n - 1 ≡ 0 = omega arith in
+        let none : ys ≡ [] = subst (λ k. ys ≡ take k xs) first rest in
+        let empty : xs ≡ [] = items ∙ ap (λ zs. zs ++ []) none in
+        let at = subst (λ (zs : List X). slice_get zs (length zs - 1) ≡ Some x) empty last in
+        let l = within [] (length {A = X} [] - 1) x at in
+        absurd (omega arith)
+  ]
+
+  -- one is replaced twice
+  pub set_twice : (xs : List X) (i : ℕ) (y z : X) → set (set xs i y) i z ≡ set xs i z
+  set_twice [] i y z = refl
+  set_twice (x ∷ xs) zero y z = refl
+  set_twice (x ∷ xs) (suc i) y z = ap (λ zs. x ∷ zs) (set_twice xs i y z)
+
+  -- or by what stood there
+  pub set_same : (xs : List X) (i : ℕ) (x : X) → slice_get xs i ≡ Some x → set xs i x ≡ xs
+  set_same [] i x h = refl
+  set_same (z ∷ xs) zero x h = (let same : z ≡ x = cc in ap (λ y. y ∷ xs) (sym same))
+  set_same (z ∷ xs) (suc i) x h = ap (λ zs. z ∷ zs) (set_same xs i x h)

@@ -8,7 +8,7 @@ use Rattle.tw_core.specs.Steps.{IsRolledBack, after_arrival, after_handling, fir
 use Rattle.tw_engine.specs.Arrival.{refusing}
 use Rattle.tw_engine.specs.Process.{Logical, committed_at, process_core}
 use Rattle.tw_rounds.proofs.Lists.{get_seam, remove_seam}
-use Rattle.tw_rounds.specs.Members.{IsSound, Keeps, KeepsTo, Mailed, place_of}
+use Rattle.tw_rounds.specs.Members.{IsSound, Keeps, KeepsTo, Mailed, handed, place_of}
 use Rattle.tw_rounds.specs.Times.{earliest}
 use Rattle.tw_rule.proofs.Calls.{hand_is_loose, hand_is_own, keeps_commit, keeps_handle, keeps_receive, keeps_roll_back}
 use Rattle.tw_rule.specs.Board.{times_among}
@@ -17,14 +17,14 @@ use Rattle.tw_sim.proofs.Counts.{in_cons}
 use Rattle.tw_sim.specs.declared.machine.Signed.{Signed}
 use Rattle.tw_sim.specs.Simulation.{Simulation, IsLawful, state, times}
 
--- a process with some mail
-abbrev pub mailed : {M E : Type 0} → Logical M E → List (Signed E) → Mailed M E
-mailed p mail = record { process = p; mail = mail }
+-- a process with some mail, and what it has to send on
+abbrev pub mailed : {M E : Type 0} → Logical M E → List (Signed E) → List (Signed E) → Mailed M E
+mailed p mail outbox = record { process = p; mail = mail; outbox = outbox }
 
 -- the place of a process that has become another
 moved_place : {M E : Type 0} (stop : ℕ) (x : Mailed M E) (q : Logical M E) (mail : List (Signed E)) → q.number ≡ x.process.number
-    → with_core (process_core stop q) (record (place_of x) { mail = mail }) ≡ place_of (mailed q mail)
-moved_place stop x q mail same = ap (λ n. record (place_of (mailed q mail)) { worker = n; owns = λ r. r == n }) (sym same)
+    → with_core (process_core stop q) (record (place_of x) { mail = mail }) ≡ place_of (mailed q mail x.outbox)
+moved_place stop x q mail same = ap (λ n. record (place_of (mailed q mail x.outbox)) { worker = n; owns = λ r. r == n }) (sym same)
 
 module _ {S E : Type 0} (m : Simulation S E) where
   -- what is handled before a stop is handled so before a later one
@@ -49,6 +49,7 @@ module _ {S M E : Type 0} (m : Simulation S E) where
   keeps_same stop x sound = record {
     model = refl;
     number = refl;
+    outbox = refl;
     place = record { worker = refl; owns = refl; place = sound.place; late = λ t from. from; surplus = λ e. refl; done = λ r. omega arith; bound = refl };
   }
 
@@ -56,6 +57,7 @@ module _ {S M E : Type 0} (m : Simulation S E) where
   keeps_both stop x y z first second = record {
     model = second.model ∙ first.model;
     number = second.number ∙ first.number;
+    outbox = second.outbox ∙ first.outbox;
     place = record {
       worker = second.place.worker ∙ first.place.worker;
       owns = second.place.owns ∙ first.place.owns;
@@ -88,13 +90,13 @@ module _ {S M E : Type 0} (m : Simulation S E) where
 
   -- a process that has become another, in a way that its place keeps
   became : (stop : ℕ) (x : Mailed M E) (q : Logical M E) (mail : List (Signed E)) → q.model ≡ x.process.model → q.number ≡ x.process.number
-      → PreservesPlace m stop (place_of x) (with_core (process_core stop q) (record (place_of x) { mail = mail })) → Keeps m stop x (mailed q mail)
-  became stop x q mail model number keeps = record { model = model; number = number; place = subst (PreservesPlace m stop (place_of x)) (moved_place stop x q mail number) keeps }
+      → PreservesPlace m stop (place_of x) (with_core (process_core stop q) (record (place_of x) { mail = mail })) → Keeps m stop x (mailed q mail x.outbox)
+  became stop x q mail model number keeps = record { model = model; number = number; outbox = refl; place = subst (PreservesPlace m stop (place_of x)) (moved_place stop x q mail number) keeps }
 
   -- it has handled an event before the limit
   pub handled : (limit : ℕ) (x : Mailed M E) (q : Logical M E) → q.model ≡ x.process.model → q.number ≡ x.process.number
       → handle m (process_core limit x.process) x.process.number (first_pending m (process_core limit x.process) x.process.number) ≡ Ok (process_core limit q)
-      → KeepsTo m limit x (mailed q x.mail)
+      → KeepsTo m limit x (mailed q x.mail x.outbox)
   handled limit x q model number done stop le sound =
       became stop x q x.mail model number
       (keeps_handle m sound.law stop x.process.number (place_of x) (process_core stop q) sound.place
@@ -102,7 +104,7 @@ module _ {S M E : Type 0} (m : Simulation S E) where
 
   -- it has committed
   pub committed : (x : Mailed M E) (q : Logical M E) → q ≡ committed_at m x.process → ((stop : ℕ) → process_core stop q ≡ with_commit m (process_core stop x.process) x.process.number)
-      → KeepsTo m 0 x (mailed q x.mail)
+      → KeepsTo m 0 x (mailed q x.mail x.outbox)
   committed x q is core stop le sound =
       became stop x q x.mail (ap (λ p. p.model) is) (ap (λ p. p.number) is)
       (subst (λ C. PreservesPlace m stop (place_of x) (with_core C (place_of x))) (sym (core stop)) (keeps_commit m sound.law stop x.process.number (place_of x) sound.place))
@@ -121,7 +123,7 @@ module _ {S M E : Type 0} (m : Simulation S E) where
 
     -- it has been received
     pub received : (q : Logical M E) (left : List (Signed E)) → left ≡ rest → q.model ≡ x.process.model → q.number ≡ x.process.number
-        → ((stop : ℕ) → process_core stop q ≡ after_arrival m (process_core stop x.process) s) → KeepsTo m 0 x (mailed q left)
+        → ((stop : ℕ) → process_core stop q ≡ after_arrival m (process_core stop x.process) s) → KeepsTo m 0 x (mailed q left x.outbox)
     received q left same model number core stop le sound =
         let p = place_of x in
         let kept = keeps_receive m sound.law stop (length rest) p s sound.place there in
@@ -132,9 +134,24 @@ module _ {S M E : Type 0} (m : Simulation S E) where
 
     -- or there was no memory for it
     pub met : (q : Logical M E) → q.model ≡ x.process.model → q.number ≡ x.process.number → ((stop : ℕ) → IsRolledBack m s.event (process_core stop x.process) (process_core stop q))
-        → KeepsTo m 0 x (mailed q x.mail)
+        → KeepsTo m 0 x (mailed q x.mail x.outbox)
     met q model number back stop le sound =
         became stop x q x.mail model number (keeps_roll_back m sound.law stop (length rest) (place_of x) s (process_core stop q) sound.place there (back stop))
+
+module _ {S M E : Type 0} (m : Simulation S E) (x : Mailed M E) (s : Signed E) where
+  -- a message that it would be handed is welcome
+  pub handed_welcome : (stop : ℕ) → IsSound m stop (handed s x) → (m.dst s.event ≡ x.process.number) × (x.process.bound ≤ m.time s.event) × (m.suits s.event ≡ true)
+  handed_welcome stop sound = welcome m (handed s x) x.mail s refl stop sound
+
+  -- it has been received
+  pub handed_received : (q : Logical M E) → q.model ≡ x.process.model → q.number ≡ x.process.number → ((stop : ℕ) → process_core stop q ≡ after_arrival m (process_core stop x.process) s)
+      → KeepsTo m 0 (handed s x) (mailed q x.mail x.outbox)
+  handed_received q model number core = received m (handed s x) x.mail s refl q x.mail refl model number core
+
+  -- or there was no memory for it
+  pub handed_met : (q : Logical M E) → q.model ≡ x.process.model → q.number ≡ x.process.number → ((stop : ℕ) → IsRolledBack m s.event (process_core stop x.process) (process_core stop q))
+      → KeepsTo m 0 (handed s x) (handed s (mailed q x.mail x.outbox))
+  handed_met q model number back = met m (handed s x) x.mail s refl q model number back
 
 -- a message that is for a process, suits it and is not before its bound is not refused
 pub never_refused : {S M E : Type 0} (m : Simulation S E) (p : Logical M E) (e : E) → m.dst e ≡ p.number → p.bound ≤ m.time e → m.suits e ≡ true → refusing m p e ≡ Ok tt
@@ -151,18 +168,24 @@ pub earliest-le : {E : Type 0} (time : E → ℕ) (xs : List (Signed E)) (t : �
 earliest-le time [] t = omega arith
 earliest-le time (x ∷ xs) t = let more = earliest-le time xs (min t (time x.event)) in omega arith
 
+pub earliest-append : {E : Type 0} (time : E → ℕ) (xs ys : List (Signed E)) (t : ℕ) → earliest time (xs ++ ys) t ≡ earliest time ys (earliest time xs t)
+earliest-append time [] ys t = refl
+earliest-append time (x ∷ xs) ys t = earliest-append time xs ys (min t (time x.event))
+
 module _ {S E : Type 0} (m : Simulation S E) where
   least-le : (xs : List E) (t : ℕ) → least_time m xs t ≤ t
   least-le [] t = omega arith
   least-le (x ∷ xs) t = let more = least-le xs t in omega arith
 
-  pub least-all-le : (pending kept : List E) (mail flight : List (Signed E)) (t : ℕ)
-      → least_time m pending (least_time m kept (earliest m.time mail (earliest m.time flight t))) ≤ t
-  least-all-le pending kept mail flight t =
-      let a = earliest-le m.time flight t in
-      let b = earliest-le m.time mail (earliest m.time flight t) in
-      let c = least-le kept (earliest m.time mail (earliest m.time flight t)) in
-      let d = least-le pending (least_time m kept (earliest m.time mail (earliest m.time flight t))) in
+  pub least-all-le : (pending kept : List E) (mail flight outbox : List (Signed E)) (t : ℕ)
+      → least_time m pending (least_time m kept (earliest m.time mail (earliest m.time flight (earliest m.time outbox t)))) ≤ t
+  least-all-le pending kept mail flight outbox t =
+      let o = earliest m.time outbox t in
+      let a = earliest-le m.time outbox t in
+      let b = earliest-le m.time flight o in
+      let c = earliest-le m.time mail (earliest m.time flight o) in
+      let d = least-le kept (earliest m.time mail (earliest m.time flight o)) in
+      let e = least-le pending (least_time m kept (earliest m.time mail (earliest m.time flight o))) in
       omega arith
 
 module _ {S E : Type 0} (m : Simulation S E) (law : IsLawful m) where
@@ -187,13 +210,14 @@ module _ {S E : Type 0} (m : Simulation S E) (law : IsLawful m) where
 
   -- nothing loose at a process is before the least of these times
   pub none_before : {M : Type 0} (x : Mailed M E) (t : ℕ)
-      → NoneLooseBefore m (least_time m x.process.pending (least_time m x.process.kept (earliest m.time x.mail (earliest m.time x.process.flight t)))) (place_of x)
+      → NoneLooseBefore m (least_time m x.process.pending (least_time m x.process.kept (earliest m.time x.mail (earliest m.time x.process.flight (earliest m.time x.outbox t))))) (place_of x)
   none_before x t e h =
       let p = x.process in
-      let f = earliest m.time p.flight t in
+      let o = earliest m.time x.outbox t in
+      let f = earliest m.time p.flight o in
       let g = earliest m.time x.mail f in
       let k = least_time m p.kept g in
-      let a = earliest-le m.time p.flight t in
+      let a = earliest-le m.time p.flight o in
       let b = earliest-le m.time x.mail f in
       let c = least-le m p.kept g in
       let d = least-le m p.pending k in
@@ -203,11 +227,15 @@ module _ {S E : Type 0} (m : Simulation S E) (law : IsLawful m) where
           | inl l ↦ (let there = least-there p.kept g e l in omega arith)
           | inr le2 ↦ elim (cases_lt 0 (times_among m e x.mail)) [
             | inl l ↦ (let there = earliest-there x.mail f e l in omega arith)
-            | inr le3 ↦ (
-                let all : times_loose m (whole 0 (place_of x)) e ≡ times m e p.pending + times m e p.kept + times_among m e x.mail + times_among m e p.flight
-                = grind (arith, messages-append, antimessages-append) in
-                let there = earliest-there p.flight t e (omega arith) in
-                omega arith)
+            | inr le3 ↦ elim (cases_lt 0 (times_among m e p.flight)) [
+              | inl l ↦ (let there = earliest-there p.flight o e l in omega arith)
+              | inr le4 ↦ (
+                  let all : times_loose m (whole 0 (place_of x)) e
+                  ≡ times m e p.pending + times m e p.kept + times_among m e x.mail + times_among m e p.flight + times_among m e x.outbox
+                  = grind (arith, messages-append, antimessages-append) in
+                  let there = earliest-there x.outbox t e (omega arith) in
+                  omega arith)
+            ]
           ]
         ]
       ]

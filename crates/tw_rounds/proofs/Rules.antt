@@ -1,14 +1,12 @@
 -- What keeps the rule, where each process is a place whose worker has reported the bound.
-use Rattle.std.proofs.Common.{◌≡◌, ℕ, zero, suc, ◌+◌, ◌<◌, ◌≤◌, ◌==◌, List, [], ◌∷◌, ◌++◌, append_assoc, None, Some, IfSome, length, max, replicate, set, slice_get, slice_index_or, true, refl, ap, sym, ◌∙◌, subst, ◌⊎◌, inl, inr, arith}
+use Rattle.std.proofs.Common.{◌≡◌, ℕ, zero, suc, ◌+◌, ◌<◌, ◌≤◌, ◌==◌, List, [], ◌∷◌, ◌++◌, None, Some, IfSome, max, replicate, slice_get, slice_index_or, true, refl, ap, sym, ◌∙◌, subst, ◌⊎◌, inl, inr, arith}
 use Rattle.std.proofs.lemmas.Bool.{cases_lt}
 use Rattle.std.proofs.lemmas.List.{get_or-replicate, length-replicate}
 use Rattle.std.specs.Option.{IsSomeAnd}
 use Rattle.tw_core.proofs.Counts.{antimessages-append, messages-append}
 use Rattle.tw_core.specs.Machine.{antimessages, messages, times_loose}
-use Rattle.tw_rounds.proofs.Lists.{all_indexed, get_seam, set_seam}
+use Rattle.tw_rounds.proofs.Lists.{all_indexed}
 use Rattle.tw_rounds.specs.Ruled.{board_of}
-use Rattle.tw_rule.proofs.Gives.{rule_gives}
-use Rattle.tw_rule.proofs.Places.{all_at}
 use Rattle.tw_rule.proofs.Visits.{may_stay, stands_from}
 use Rattle.tw_rule.specs.Board.{Board, IsBoard, times_among}
 use Rattle.tw_rule.specs.Place.{IsPlace, NoneLooseBefore, Place, PreservesPlace, whole}
@@ -85,20 +83,6 @@ module _ {S E : Type 0} (m : Simulation S E) (law : IsLawful m) where
         let may = may_stay m law self x (knowing b p) q board (known_stands p stands) keeps in
         record { worker = may.worker; steps = may.steps; stands = may.stands; moved = may.moved; done = may.done }
 
-    -- and so all may give
-    pub all_turn : (front ps qs : List (Place E)) → Rule m self x (front ++ ps) → length qs ≡ length ps
-        → ((i : ℕ) (p q : Place E) → slice_get ps i ≡ Some p → slice_get qs i ≡ Some q → PreservesPlace m x.stop (knowing b p) q) → Rule m self x (front ++ qs)
-    all_turn front [] [] rule count each = rule
-    all_turn front [] (q ∷ qs) rule count each = absurd (omega arith)
-    all_turn front (p ∷ ps) [] rule count each = absurd (omega arith)
-    all_turn front (p ∷ ps) (q ∷ qs) rule count each =
-        let at = get_seam front p ps in
-        let stands = all_at (Stands m self x) (front ++ p ∷ ps) (length front) p at rule.each in
-        let one = rule_gives m self x x (front ++ p ∷ ps) (length front) p q rule at (may_turn p q stands (each 0 p q refl refl)) in
-        let seam : set (front ++ p ∷ ps) (length front) q ≡ (front ++ q ∷ []) ++ ps = set_seam front p q ps ∙ sym (append_assoc front (q ∷ []) ps) in
-        let rest = all_turn (front ++ q ∷ []) ps qs (subst (Rule m self x) seam one) (omega arith) (λ i y z hy hz. each (suc i) y z hy hz) in
-        subst (Rule m self x) (append_assoc front (q ∷ []) qs) rest
-
   -- ---- the bound
 
   pub rule_raised : (n b c stop : ℕ) (flight : List (Signed E)) (ps : List (Place E)) → Rule m self (board_of n flight b stop) ps → b ≤ c → c ≤ stop
@@ -116,6 +100,20 @@ module _ {S E : Type 0} (m : Simulation S E) (law : IsLawful m) where
       }
 
   -- ---- messages
+
+  -- the order of what is on its way does not count
+  pub rule_reordered : (n b stop : ℕ) (flight out : List (Signed E)) (ps : List (Place E)) → Rule m self (board_of n flight b stop) ps
+      → ((e : E) → (messages m e out ≡ messages m e flight) × (antimessages m e out ≡ antimessages m e flight)) → Rule m self (board_of n out b stop) ps
+  rule_reordered n b stop flight out ps rule same = record {
+    board = is_board n b stop out rule.board.stop
+        (λ e h. rule.board.late e (let k = same e in let a = k.0 in let c = k.1 in omega arith))
+        (λ e h. rule.board.suit e (let k = same e in let a = k.0 in let c = k.1 in omega arith));
+    each = all_indexed (Stands m self (board_of n flight b stop)) (Stands m self (board_of n out b stop)) ps
+        (λ i p at s. record { worker = s.worker; owns = s.owns; place = s.place; reported = s.reported; bound = s.bound }) rule.each;
+    places = rule.places;
+    routers = rule.routers;
+    balance = λ e. (let old = rule.balance e in let k = same e in let a = k.0 in let c = k.1 in omega arith);
+  }
 
   module _ (n b stop : ℕ) (flight : List (Signed E)) (p : Place E) (board : IsBoard m (board_of n flight b stop)) (stands : Stands m self (board_of n flight b stop) p) where
     -- nothing loose at a place is before the bound
@@ -158,6 +156,146 @@ module _ {S E : Type 0} (m : Simulation S E) (law : IsLawful m) where
       moved = λ e. grind (arith, messages-append, antimessages-append);
       done = λ r. omega arith;
     }
+
+    -- ---- what a place has to send on
+
+    sent_on_from : (e : E) → 0 < times_among m e p.unsent → (b ≤ m.time e) × (m.suits e ≡ true)
+    sent_on_from e h = grind (arith, messages-append, antimessages-append, loose_from, stands.place.good.suit)
+
+    sent_on_board : IsBoard m (board_of n (flight ++ p.unsent) b stop)
+    sent_on_board =
+        is_board n b stop (flight ++ p.unsent) board.stop
+        (λ e h. grind (arith, messages-append, antimessages-append, cases_lt, sent_on_from, board.late))
+        (λ e h. grind (arith, messages-append, antimessages-append, cases_lt, sent_on_from, board.suit))
+
+    sent_on_place : IsPlace m stop (record p { unsent = [] })
+    sent_on_place = record {
+      good = grind (arith, messages-append, antimessages-append);
+      history = stands.place.history;
+      waiting = stands.place.waiting;
+      held = stands.place.held;
+      done = stands.place.done;
+      late = λ e h. stands.place.late e (grind (arith, messages-append, antimessages-append));
+      counted = stands.place.counted;
+    }
+
+    -- it goes on its way
+    pub may_send_on : MayGive m self (board_of n flight b stop) p (board_of n (flight ++ p.unsent) b stop) (record p { unsent = [] })
+    may_send_on = record {
+      worker = refl;
+      steps = record { others = λ v other. refl; workers = refl; bound = omega arith; stop = refl; board = sent_on_board };
+      stands = record {
+        worker = stands.worker;
+        owns = stands.owns;
+        place = sent_on_place;
+        reported = λ e h. stands.reported e (grind (arith, messages-append, antimessages-append));
+        bound = stands.bound;
+      };
+      moved = λ e. grind (arith, messages-append, antimessages-append);
+      done = λ r. omega arith;
+    }
+
+    module _ (rest out : List (Signed E)) (is : flight ≡ rest ++ out) where
+      aside : (e : E) → (messages m e flight ≡ messages m e rest + messages m e out) × (antimessages m e flight ≡ antimessages m e rest + antimessages m e out)
+      aside e = (ap (messages m e) is ∙ messages-append m e rest out, ap (antimessages m e) is ∙ antimessages-append m e rest out)
+
+      aside_from : (e : E) → 0 < times_among m e out → (b ≤ m.time e) × (m.suits e ≡ true)
+      aside_from e h = (
+        board.late e (let k = aside e in let a = k.0 in let c = k.1 in omega arith),
+        board.suit e (let k = aside e in let a = k.0 in let c = k.1 in omega arith),
+      )
+
+      abbrev kept_aside : Place E
+      kept_aside = record p { unsent = p.unsent ++ out }
+
+      loose_aside : (e : E) → times_loose m (whole 0 kept_aside) e ≡ times_loose m (whole 0 p) e + times_among m e out
+      loose_aside e = grind (arith, messages-append, antimessages-append)
+
+      late_aside : NoneLooseBefore m b kept_aside
+      late_aside e h = elim (cases_lt 0 (times_among m e out)) [
+        | inl l ↦ (aside_from e l).0
+        | inr ge ↦ loose_from e (let k = loose_aside e in omega arith)
+      ]
+
+      aside_place : IsPlace m stop kept_aside
+      aside_place = record {
+        good = grind (arith, messages-append, antimessages-append, cases_lt, aside_from);
+        history = stands.place.history;
+        waiting = stands.place.waiting;
+        held = stands.place.held;
+        done = stands.place.done;
+        late = λ e h. (let from = late_aside e h in let old = stands.bound in omega arith);
+        counted = stands.place.counted;
+      }
+
+      -- what is on its way is kept at a place, which has to send it on
+      pub may_keep : MayGive m self (board_of n flight b stop) p (board_of n rest b stop) kept_aside
+      may_keep = record {
+        worker = refl;
+        steps = record {
+          others = λ v other. refl;
+          workers = refl;
+          bound = omega arith;
+          stop = refl;
+          board = is_board n b stop rest board.stop (λ e h. board.late e (let k = aside e in let a = k.0 in let c = k.1 in omega arith)) (λ e h. board.suit e (let k = aside e in let a = k.0 in let c = k.1 in omega arith));
+        };
+        stands = stands_of n b stop rest kept_aside (let here = stands.worker in let len = length-replicate n (Some b) in omega arith) stands.owns aside_place late_aside stands.bound;
+        moved = λ e. (let k = aside e in let a = k.0 in let c = k.1 in grind (arith, messages-append, antimessages-append));
+        done = λ r. omega arith;
+      }
+
+    -- ---- what a place was handed
+
+    module _ (mail back : List (Signed E)) (is : p.mail ≡ mail ++ back) where
+      parted : (e : E) → (messages m e p.mail ≡ messages m e mail + messages m e back) × (antimessages m e p.mail ≡ antimessages m e mail + antimessages m e back)
+      parted e = (ap (messages m e) is ∙ messages-append m e mail back, ap (antimessages m e) is ∙ antimessages-append m e mail back)
+
+      abbrev without : Place E
+      without = record p { mail = mail }
+
+      loose_without : (e : E) → times_loose m (whole 0 p) e ≡ times_loose m (whole 0 without) e + times_among m e back
+      loose_without e = (let k = parted e in let a = k.0 in let c = k.1 in grind (arith, messages-append, antimessages-append))
+
+      back_from : (e : E) → 0 < times_among m e back → (b ≤ m.time e) × (m.suits e ≡ true)
+      back_from e h = (
+        loose_from e (let k = loose_without e in omega arith),
+        stands.place.good.suit e (let k = parted e in let a = k.0 in let c = k.1 in grind (arith, messages-append, antimessages-append)),
+      )
+
+      without_place : IsPlace m stop without
+      without_place = record {
+        good = grind (arith, messages-append, antimessages-append, parted);
+        history = stands.place.history;
+        waiting = λ e h. stands.place.waiting e (let k = parted e in let a = k.0 in let c = k.1 in omega arith);
+        held = stands.place.held;
+        done = stands.place.done;
+        late = λ e h. stands.place.late e (let k = loose_without e in omega arith);
+        counted = stands.place.counted;
+      }
+
+      -- it is on its way again
+      pub may_return : MayGive m self (board_of n flight b stop) p (board_of n (flight ++ back) b stop) without
+      may_return = record {
+        worker = refl;
+        steps = record {
+          others = λ v other. refl;
+          workers = refl;
+          bound = omega arith;
+          stop = refl;
+          board = is_board n b stop (flight ++ back) board.stop
+              (λ e h. grind (arith, messages-append, antimessages-append, cases_lt, back_from, board.late))
+              (λ e h. grind (arith, messages-append, antimessages-append, cases_lt, back_from, board.suit));
+        };
+        stands = record {
+          worker = stands.worker;
+          owns = stands.owns;
+          place = without_place;
+          reported = λ e h. stands.reported e (let k = loose_without e in omega arith);
+          bound = stands.bound;
+        };
+        moved = λ e. (let k = parted e in let a = k.0 in let c = k.1 in grind (arith, messages-append, antimessages-append));
+        done = λ r. omega arith;
+      }
 
     module _ (rest : List (Signed E)) (s : Signed E) (is : flight ≡ rest ++ s ∷ []) (home : p.owns (m.dst s.event) ≡ true) where
       among : (e : E) → (messages m e flight ≡ messages m e rest + messages m e (s ∷ [])) × (antimessages m e flight ≡ antimessages m e rest + antimessages m e (s ∷ []))

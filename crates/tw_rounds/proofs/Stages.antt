@@ -1,20 +1,20 @@
 -- The rule over all processes, from one stage of a round to the next.
 use Rattle.std.proofs.Common.{◌≡◌, ℕ, ◌+◌, ◌<◌, ◌≤◌, List, [], ◌∷◌, ◌++◌, Some, Result, Ok, Err, OnErr, OnOk, length, map, max, set, slice_get, refl, ap, sym, ◌∙◌, subst, arith}
 use Rattle.std.proofs.lemmas.Bool.{eq-eqb}
-use Rattle.std.proofs.lemmas.List.{length-map, length-set}
+use Rattle.std.proofs.lemmas.List.{length-set}
 use Rattle.tw_core.proofs.Counts.{antimessages-append, messages-append}
 use Rattle.tw_core.specs.Machine.{antimessages, messages}
-use Rattle.tw_rounds.proofs.Lists.{get_set, map_get, map_set, set_each, there_at, within}
+use Rattle.tw_rounds.proofs.Lists.{get_set, map_get, map_set, set_each, set_twice, there_at}
 use Rattle.tw_rounds.proofs.Members.{earliest-le, earliest-there, keeps_same}
-use Rattle.tw_rounds.proofs.Rules.{all_turn, among_self, known_stands, knowing, loose_from, may_hand, may_send, rule_raised, self}
-use Rattle.tw_rounds.specs.Members.{IsFullBefore, IsSound, Keeps, KeepsTo, Mailed, place_of, raised, taken_out}
+use Rattle.tw_rounds.proofs.Rules.{among_self, known_stands, loose_from, may_hand, may_keep, may_return, may_send, may_send_on, may_turn, rule_raised, rule_reordered, self}
+use Rattle.tw_rounds.specs.Members.{IsFullBefore, IsSound, Keeps, KeepsTo, Mailed, handed, place_of, raised, sent_on, taken_out}
 use Rattle.tw_rounds.specs.Ruled.{AreRuled, IsSomeFullBefore, board_of}
 use Rattle.tw_rounds.specs.Times.{earliest}
 use Rattle.tw_rule.proofs.Gives.{rule_gives, rule_reopens}
 use Rattle.tw_rule.proofs.Places.{all_at, get_map}
 use Rattle.tw_rule.proofs.Visits.{may_stay}
 use Rattle.tw_rule.specs.Board.{times_among}
-use Rattle.tw_rule.specs.Place.{NoneLooseBefore, PreservesPlace}
+use Rattle.tw_rule.specs.Place.{NoneLooseBefore}
 use Rattle.tw_rule.specs.Rule.{MayGive, Rule, Stands}
 use Rattle.tw_sim.specs.declared.machine.Signed.{Signed}
 use Rattle.tw_sim.specs.Simulation.{Simulation}
@@ -32,28 +32,6 @@ module _ {S M E : Type 0} (m : Simulation S E) where
     pub may_turn_at : (i : ℕ) (x : Mailed M E) → slice_get xs i ≡ Some x → IsSound m stop (raised bound x)
     may_turn_at i x at =
         record { law = ruled.law; place = (known_stands m ruled.law (board_of (length xs) flight bound stop) ruled.rule.board bound (omega arith) (place_of x) (stands_at i x at)).place }
-
-    -- all have taken their turns
-    pub all_turned : (ys : List (Mailed M E)) → length ys ≡ length xs → ((i : ℕ) (x y : Mailed M E) → slice_get xs i ≡ Some x → slice_get ys i ≡ Some y → Keeps m stop (raised bound x) y)
-        → AreRuled m model stop bound flight ys
-    all_turned ys count each = record {
-      law = ruled.law;
-      numbered = ruled.numbered;
-      count = count ∙ ruled.count;
-      each = λ i y at. (
-          let found = there_at xs i (let l = within ys i y at in omega arith) in
-          let was = ruled.each i found.0 found.1 in
-          let keeps = each i found.0 y found.1 at in
-          (keeps.number ∙ was.0, keeps.model ∙ was.1));
-      rule = subst (λ n. Rule m self (board_of n flight bound stop) (map place_of ys)) (sym count)
-          (all_turn m ruled.law (board_of (length xs) flight bound stop) ruled.rule.board bound (omega arith) [] (map place_of xs) (map place_of ys) ruled.rule
-          (length-map ys place_of ∙ (count ∙ sym (length-map xs place_of)))
-          (λ i p q at to.
-          let x = map_get place_of xs i p at in
-          let y = map_get place_of ys i q to in
-          subst (λ z. PreservesPlace m stop (knowing bound z) q) x.2
-          (subst (PreservesPlace m stop (place_of (raised bound x.0))) y.2 (each i x.0 y.0 x.1 y.1).place)));
-    }
 
     -- one has given back what it may
     one_given : (out : List (Signed E)) (i : ℕ) (x y : Mailed M E) → slice_get xs i ≡ Some x → y.process.number ≡ x.process.number → y.process.model ≡ x.process.model
@@ -75,6 +53,41 @@ module _ {S M E : Type 0} (m : Simulation S E) where
     one_kept i x y at keeps =
         one_given flight i x y at keeps.number keeps.model
         (may_stay m ruled.law self (board_of (length xs) flight bound stop) (place_of x) (place_of y) ruled.rule.board (stands_at i x at) keeps.place)
+
+    -- one has begun a round
+    pub one_begun : (i : ℕ) (x y : Mailed M E) → slice_get xs i ≡ Some x → Keeps m stop (raised bound x) y → AreRuled m model stop bound flight (set xs i y)
+    one_begun i x y at keeps =
+        one_given flight i x y at keeps.number keeps.model
+        (may_turn m ruled.law (board_of (length xs) flight bound stop) ruled.rule.board bound (omega arith) (place_of x) (place_of y) (stands_at i x at) keeps.place)
+
+    -- the order of what is on its way does not count
+    pub reordered : (out : List (Signed E)) → ((e : E) → (messages m e out ≡ messages m e flight) × (antimessages m e out ≡ antimessages m e flight)) → AreRuled m model stop bound out xs
+    reordered out same = record {
+      law = ruled.law;
+      numbered = ruled.numbered;
+      count = ruled.count;
+      each = ruled.each;
+      rule = rule_reordered m ruled.law (length xs) bound stop flight out (map place_of xs) ruled.rule same;
+    }
+
+    -- what one has to send on is on its way
+    pub one_sent_on : (i : ℕ) (x : Mailed M E) → slice_get xs i ≡ Some x → AreRuled m model stop bound (flight ++ x.outbox) (set xs i (sent_on x))
+    one_sent_on i x at =
+        one_given (flight ++ x.outbox) i x (sent_on x) at refl refl (may_send_on m ruled.law (length xs) bound stop flight (place_of x) ruled.rule.board (stands_at i x at))
+
+    -- one has to send on what is on its way
+    pub one_kept_aside : (rest out : List (Signed E)) → flight ≡ rest ++ out → (i : ℕ) (x : Mailed M E) → slice_get xs i ≡ Some x
+        → AreRuled m model stop bound rest (set xs i (record x { outbox = x.outbox ++ out }))
+    one_kept_aside rest out is i x at =
+        one_given rest i x (record x { outbox = x.outbox ++ out }) at refl refl
+        (may_keep m ruled.law (length xs) bound stop flight (place_of x) ruled.rule.board (stands_at i x at) rest out is)
+
+    -- what one was handed is on its way again
+    pub one_returned : (mail back : List (Signed E)) (i : ℕ) (x : Mailed M E) → slice_get xs i ≡ Some x → x.mail ≡ mail ++ back
+        → AreRuled m model stop bound (flight ++ back) (set xs i (record x { mail = mail }))
+    one_returned mail back i x at is =
+        one_given (flight ++ back) i x (record x { mail = mail }) at refl refl
+        (may_return m ruled.law (length xs) bound stop flight (place_of x) ruled.rule.board (stands_at i x at) mail back is)
 
     -- what one has sent is on its way
     pub one_sent : (i : ℕ) (x : Mailed M E) → slice_get xs i ≡ Some x → AreRuled m model stop bound (flight ++ x.process.flight) (set xs i (taken_out x))
@@ -123,6 +136,16 @@ module _ {S M E : Type 0} (m : Simulation S E) where
         subst (λ f. AreRuled m model stop bound f (set xs i y)) (sym unsent)
         (subst (λ z. AreRuled m model stop bound flight (set xs i z)) (sym err) (one_kept i x x at (keeps_same m stop x (sound_at i x at))))
 
+    -- what one has to send on is on its way, or nothing has changed
+    pub sent_on_ruled : {T F : Type 0} (r : Result T F) (i : ℕ) (x y : Mailed M E) (out : List (Signed E)) → slice_get xs i ≡ Some x → OnOk r (y ≡ sent_on x) → OnOk r (out ≡ flight ++ x.outbox)
+        → OnErr r (y ≡ x) → OnErr r (out ≡ flight) → AreRuled m model stop bound out (set xs i y)
+    sent_on_ruled (Ok u) i x y out at ok sent err unsent =
+        subst (λ f. AreRuled m model stop bound f (set xs i y)) (sym sent)
+        (subst (λ z. AreRuled m model stop bound (flight ++ x.outbox) (set xs i z)) (sym ok) (one_sent_on i x at))
+    sent_on_ruled (Err u) i x y out at ok sent err unsent =
+        subst (λ f. AreRuled m model stop bound f (set xs i y)) (sym unsent)
+        (subst (λ z. AreRuled m model stop bound flight (set xs i z)) (sym err) (one_kept i x x at (keeps_same m stop x (sound_at i x at))))
+
     -- the bound has risen
     pub bound_raised : (c : ℕ) → bound ≤ c → c ≤ stop → ((e : E) → 0 < times_among m e flight → c ≤ m.time e) → ((i : ℕ) (x : Mailed M E) → slice_get xs i ≡ Some x → NoneLooseBefore m c (place_of x))
         → AreRuled m model stop c flight xs
@@ -156,6 +179,31 @@ module _ {S M E : Type 0} (m : Simulation S E) where
       each = ruled.each;
       rule = rule_reopens m self (board_of (length xs) flight bound stop) (map place_of xs) later le ruled.rule;
     }
+
+module _ {S M E : Type 0} (m : Simulation S E) (model : M) (stop bound : ℕ) (xs : List (Mailed M E)) (rest : List (Signed E)) (s : Signed E) (ruled : AreRuled m model stop bound (rest ++ s ∷ []) xs)
+    (i : ℕ) (x y : Mailed M E) (at : slice_get xs i ≡ Some x) (own : m.dst s.event ≡ i) where
+  -- the last message on its way would be handed to its receiver
+  pub would_hand : AreRuled m model stop bound rest (set xs i (handed s x))
+  would_hand =
+      subst (λ n. AreRuled m model stop bound rest (set xs n (handed s x))) own
+      (one_handed m model stop bound (rest ++ s ∷ []) xs ruled rest s refl x (subst (λ n. slice_get xs n ≡ Some x) (sym own) at))
+
+  pub would_sound : IsSound m stop (handed s x)
+  would_sound = sound_at m model stop bound rest (set xs i (handed s x)) would_hand i (handed s x) (get_set xs i x (handed s x) at)
+
+  -- its receiver has received it
+  pub one_received : Keeps m stop (handed s x) y → AreRuled m model stop bound rest (set xs i y)
+  one_received keeps =
+      subst (AreRuled m model stop bound rest) (set_twice xs i (handed s x) y)
+      (one_kept m model stop bound rest (set xs i (handed s x)) would_hand i (handed s x) y (get_set xs i x (handed s x) at) keeps)
+
+  -- or there was no memory for it, and it is on its way still
+  pub one_met : Keeps m stop (handed s x) (handed s y) → AreRuled m model stop bound (rest ++ s ∷ []) (set xs i y)
+  one_met keeps =
+      let met = subst (AreRuled m model stop bound rest) (set_twice xs i (handed s x) (handed s y))
+      (one_kept m model stop bound rest (set xs i (handed s x)) would_hand i (handed s x) (handed s y) (get_set xs i x (handed s x) at) keeps) in
+      subst (AreRuled m model stop bound (rest ++ s ∷ [])) (set_twice xs i (handed s y) y)
+      (one_returned m model stop bound rest (set xs i (handed s y)) met y.mail (s ∷ []) i (handed s y) (get_set xs i x (handed s y) at) refl)
 
 module _ {S M E : Type 0} (sim : M → Simulation S E) (model : M) (stop bound : ℕ) (flight : List (Signed E)) (xs : List (Mailed M E)) (ruled : AreRuled (sim model) model stop bound flight xs)
     (i : ℕ) (x y : Mailed M E) (at : slice_get xs i ≡ Some x) where

@@ -1,4 +1,5 @@
 pub mod Members
 pub mod Ruled
+pub mod Shares
 pub mod Times
 pub mod Warp

@@ -1,20 +1,20 @@
 -- A logical process with its mail, as a place of the rule (own, after Jefferson, Virtual Time, 1985).
-use Rattle.std.specs.Prelude.{ℕ, ◌==◌, ◌≡◌, ◌≤◌, ◌^◌, List, [], Err, length, max}
+use Rattle.std.specs.Prelude.{ℕ, ◌==◌, ◌≡◌, ◌≤◌, ◌^◌, List, [], ◌∷◌, ◌++◌, Err, length, max}
 use Rattle.tw_core.specs.Steps.{first_pending, handle, put}
 use Rattle.tw_core.specs.declared.refusal.Refusal.TheVariants.{CounterFull}
 use Rattle.tw_engine.specs.Process.{Logical, history, process_core}
-use Rattle.tw_rounds.specs.declared.turning.Round.{Round}
 use Rattle.tw_rule.specs.Place.{IsPlace, Place, PreservesPlace}
 use Rattle.tw_sim.specs.declared.machine.Cancel.TheVariants.{Aggressive}
 use Rattle.tw_sim.specs.declared.machine.Signed.{Signed}
-use Rattle.tw_sim.specs.Seq.{insert_all}
+use Rattle.tw_sim.specs.Seq.{insert, insert_all}
 use Rattle.tw_sim.specs.Simulation.{IsLawful, Simulation, only}
 
--- a process, and the messages that it was handed and has not received
+-- a process, the messages that it was handed and has not received, and those that it has to send on
 pub record Mailed (M E : Type 0) : Type 0 where
   pub process : Logical M E
   -- the one that is received first stands last
   pub mail : List (Signed E)
+  pub outbox : List (Signed E)
 
 module _ {M E : Type 0} where
   -- the process as a place of its own, whose worker has its number
@@ -33,7 +33,15 @@ module _ {M E : Type 0} where
     bound = x.process.bound;
     cancel = Aggressive;
     mail = x.mail;
-    unsent = [];
+    unsent = x.outbox;
+  }
+
+  -- the process of this number, before its opening events
+  abbrev pub beginning_of : M → ℕ → Mailed M E
+  beginning_of model number = record {
+    process = record { model = model; number = number; ahead = []; past = []; pending = []; kept = []; flight = []; done = 0; bound = 0 };
+    mail = [];
+    outbox = [];
   }
 
   -- the process knows this bound, or its own where that is later
@@ -44,35 +52,38 @@ module _ {M E : Type 0} where
   abbrev pub taken_out : Mailed M E → Mailed M E
   taken_out x = record x { process = record x.process { flight = [] } }
 
+  -- it is handed a message
+  abbrev pub handed : Signed E → Mailed M E → Mailed M E
+  handed s x = record x { mail = x.mail ++ s ∷ [] }
+
+  -- what it has to send on is taken out of it
+  abbrev pub sent_on : Mailed M E → Mailed M E
+  sent_on x = record x { outbox = [] }
+
 module _ {S M E : Type 0} (m : Simulation S E) where
+  -- an event more waits for a process
+  abbrev pub awaiting : E → Mailed M E → Mailed M E
+  awaiting e x = record x { process = record x.process { pending = insert m e x.process.pending } }
+
   -- the process of this number as it begins: its opening events are pending
   abbrev pub opening_of : M → ℕ → Mailed M E
-  opening_of model number = record {
-    process = record { model = model; number = number; ahead = []; past = []; pending = insert_all m (only m number m.opening) []; kept = []; flight = []; done = 0; bound = 0 };
-    mail = [];
-  }
+  opening_of model number = record (beginning_of model number) { process = record ((beginning_of model number).process) { pending = insert_all m (only m number m.opening) [] } }
 
   -- a process is a place of the rule, to this stop
   pub record IsSound (stop : ℕ) (x : Mailed M E) : Type 0 where
     pub law : IsLawful m
     pub place : IsPlace m stop (place_of x)
 
-  -- what a call at a process keeps, to this stop: it is the same process, and what a call at a place keeps
+  -- what a call at a process keeps, to this stop: it is the same process, what it has to send on, and what a call at a place keeps
   pub record Keeps (stop : ℕ) (x y : Mailed M E) : Type 0 where
     pub model : y.process.model ≡ x.process.model
     pub number : y.process.number ≡ x.process.number
+    pub outbox : y.outbox ≡ x.outbox
     pub place : PreservesPlace m stop (place_of x) (place_of y)
 
   -- what a call keeps that handles events before a limit alone, whatever the stop beyond it
   abbrev pub KeepsTo : ℕ → Mailed M E → Mailed M E → Type 0
   KeepsTo limit x y = (stop : ℕ) → limit ≤ stop → IsSound stop x → Keeps stop x y
-
-  -- a process may take its turn in a round, of a model with this latest time
-  pub record MayTurn (latest : ℕ) (round : Round) (x : Mailed M E) : Type 0 where
-    pub sound : IsSound round.stop (raised round.bound x)
-    -- it handles nothing at or after the stop, which is no later than that
-    pub limit : round.limit ≤ round.stop
-    pub early : round.stop ≤ latest
 
   -- a process is refused to handle its first pending event, which is before this time, since a counter is full
   abbrev pub IsFullBefore : ℕ → Logical M E → Type 0

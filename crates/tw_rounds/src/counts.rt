@@ -1,5 +1,7 @@
 //! What a run has counted.
 
+use tw_sim::Signed;
+
 /// What the processes of a run have done, since it was opened. A count that reaches 2^64 - 1 stays there.
 #[derive(Clone, Copy, Default, PartialEq, Eq, Debug)]
 pub struct Counts {
@@ -14,11 +16,22 @@ pub struct Counts {
 }
 
 impl Counts {
-    /// A round in which so many events were handled, and so many messages and antimessages sent.
-    pub(crate) fn add_round(&mut self, handled: u64, messages: u64, antimessages: u64) {
-        self.rounds = self.rounds.saturating_add(1);
-        self.handled = self.handled.saturating_add(handled);
-        self.messages = self.messages.saturating_add(messages);
-        self.antimessages = self.antimessages.saturating_add(antimessages);
+    /// Adds other counts.
+    pub(crate) fn add(&mut self, other: Counts) {
+        self.rounds = self.rounds.saturating_add(other.rounds);
+        self.handled = self.handled.saturating_add(other.handled);
+        self.messages = self.messages.saturating_add(other.messages);
+        self.antimessages = self.antimessages.saturating_add(other.antimessages);
+    }
+
+    /// Adds these messages, each as a message or as an antimessage.
+    pub(crate) fn add_sent<E>(&mut self, sent: &[Signed<E>]) {
+        for message in sent {
+            if message.plus {
+                self.messages = self.messages.saturating_add(1);
+            } else {
+                self.antimessages = self.antimessages.saturating_add(1);
+            }
+        }
     }
 }

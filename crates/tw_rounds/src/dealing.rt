@@ -10,6 +10,7 @@ ghost use Rattle.tw_rounds.specs.Times.{earliest};
 ghost use Rattle.tw_rule.specs.Place.{NoneLooseBefore};
 ghost use Rattle.tw_sim.specs.Simulation.{IsLawful};
 
+use crate::counts::Counts;
 use crate::member::{Member, least_among};
 use std::alloc::AllocError;
 use tw_process::{ProcessModel, Refused, Timed};
@@ -52,7 +53,7 @@ fn tell_at<M: ProcessModel>(
     members[number].tell(bound)
 }
 
-/// What all have sent is on its way.
+/// What all have sent, or have to send on, is on its way.
 pub(crate) fn send_all<M: ProcessModel>(
     members: &mut [Member<'_, M>],
     flight: &mut Vec<Signed<M::Event>>,
@@ -61,9 +62,23 @@ pub(crate) fn send_all<M: ProcessModel>(
         AreRuled m model stop bound flight.old.items members.old → AreRuled m model stop bound flight.new.items members.new }
 {
     for number in 0..members.len() {
+        send_on_at(members, number, flight)?;
         send_at(members, number, flight)?;
     }
     Ok(())
+}
+
+/// What the process of this number has to send on is on its way.
+fn send_on_at<M: ProcessModel>(
+    members: &mut [Member<'_, M>],
+    number: usize,
+    flight: &mut Vec<Signed<M::Event>>,
+) -> Result<(), AllocError>
+    requires { number < length members.old }
+    ensures { (model : M) (stop bound : ℕ) → let m = simulation_of M.Event.parts M.Event.cmp (M.behaviour model) in
+        AreRuled m model stop bound flight.old.items members.old → AreRuled m model stop bound flight.new.items members.new }
+{
+    members[number].send_on(flight)
 }
 
 /// What the process of this number has sent is on its way.
@@ -143,25 +158,14 @@ fn hand_at<M: ProcessModel>(
     members[number].hand(message)
 }
 
-/// How many events all handled in the last round.
-pub(crate) fn count_handled<M: ProcessModel>(members: &[Member<'_, M>]) -> u64 {
-    let mut handled: u64 = 0;
+/// What all have done in the last round.
+pub(crate) fn count_round<M: ProcessModel>(members: &[Member<'_, M>]) -> Counts {
+    let mut round = Counts {
+        rounds: 1,
+        ..Counts::default()
+    };
     for member in members {
-        handled = handled.saturating_add(member.handled());
+        round.add(member.counts());
     }
-    handled
-}
-
-/// How many of these are messages, and how many antimessages.
-pub(crate) fn count_signs<E>(flight: &[Signed<E>]) -> (u64, u64) {
-    let mut messages: u64 = 0;
-    let mut antimessages: u64 = 0;
-    for message in flight {
-        if message.plus {
-            messages = messages.saturating_add(1);
-        } else {
-            antimessages = antimessages.saturating_add(1);
-        }
-    }
-    (messages, antimessages)
+    round
 }

@@ -1,7 +1,14 @@
 //! The limits of a round.
 
-/// How many events a process handles in one round at most.
-pub(crate) const MOST_EVENTS: u64 = 1 << 32;
+/// How many messages a share receives after one event at most. What is left waits for the next round.
+pub(crate) const MOST_MESSAGES: u64 = 1 << 32;
+
+/// How many events a share handles in one round at most, for each of its processes. What a round costs for a process is
+/// then little beside, and notes are let go before they are many.
+pub(crate) const EVENTS_PER_PROCESS: u64 = 8;
+
+/// How many events a share may handle in one round, however few its processes.
+pub(crate) const LEAST_EVENTS: u64 = 1 << 14;
 
 /// How many events all processes handled in the round before, at least, where the next one is done by several threads:
 /// to start and join them takes as long as some of them.

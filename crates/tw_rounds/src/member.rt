@@ -5,15 +5,17 @@ ghost use Rattle.tw_core.specs.Steps.{IsRolledBack, after_arrival};
 ghost use Rattle.tw_engine.specs.Process.{IsSameProcess, process_core};
 ghost use Rattle.tw_process.specs.Behaviour.{simulation_of};
 ghost use Rattle.tw_process.specs.declared.refused.Refused.TheVariants.{CounterFull};
-ghost use Rattle.tw_rounds.specs.Members.{IsFullBefore, IsSound, Keeps, KeepsTo, MayTurn, opening_of, place_of, raised, taken_out};
+ghost use Rattle.tw_rounds.specs.Members.{IsFullBefore, IsSound, KeepsTo, awaiting, handed, beginning_of, place_of, raised, sent_on, taken_out};
+ghost use Rattle.tw_rounds.specs.Shares.{on_way};
 ghost use Rattle.tw_rounds.specs.Times.{earliest};
 ghost use Rattle.tw_rule.specs.Place.{NoneLooseBefore};
 ghost use Rattle.tw_sim.specs.Simulation.{IsLawful};
 
-use crate::limits::MOST_EVENTS;
-use crate::turning::{Round, Turn};
+use crate::counts::Counts;
+use crate::sent::Sent;
 use std::alloc::{AllocError, Global};
 use std::marker::Model;
+use std::mem;
 use tw_core::Refusal;
 use tw_engine::{LogicalProcess, Stopped, Unreceived};
 use tw_process::{ProcessModel, Refused, Timed};
@@ -25,36 +27,49 @@ pub(crate) struct Member<'a, M: ProcessModel> {
     process: LogicalProcess<'a, M>,
     // The one to be received first stands last.
     mail: Vec<Signed<M::Event>>,
-    // Why it did not go on in the last round, and how many events it handled there.
+    sent: Sent<M::Event>,
+    // Why it did not go on in the last round, and what it did there.
     refused: Option<Refused>,
-    handled: u64,
+    counts: Counts,
 }
 
 impl<'a, M: ProcessModel> Model for Member<'a, M> {
     ghost use Rattle.tw_rounds.specs.Members.{Mailed};
+    ghost use Rattle.tw_rounds.specs.Shares.{on_way};
 
     ghost Value = { Mailed M M.Event };
 
-    ghost view = { λ a. record { process = a.process; mail = a.mail.items } };
+    ghost view = { λ a. record { process = a.process; mail = a.mail.items; outbox = on_way a.sent } };
 }
 
 impl<'a, M: ProcessModel> Member<'a, M> {
-    /// The process of this number, as it begins.
-    pub(crate) fn open(
+    /// The process of this number, before its opening events.
+    pub(crate) fn begin(
         alloc: Global,
         model: &'a M,
         number: u32,
     ) -> Result<Member<'a, M>, AllocError>
         requires { number < (M.behaviour model.now).processes }
-        ensures { IfOk result (λ x. x ≡ opening_of (simulation_of M.Event.parts M.Event.cmp (M.behaviour model.now)) model.now number) }
+        ensures { IfOk result (λ x. x ≡ beginning_of model.now number) }
     {
-        let process = LogicalProcess::open(alloc, model, number)?;
+        let process = LogicalProcess::begin(alloc, model, number)?;
         Ok(Member {
             process,
             mail: Vec::new(alloc),
+            sent: Sent::new(alloc),
             refused: None,
-            handled: 0,
+            counts: Counts::default(),
         })
+    }
+
+    /// An opening event waits for it. Where there is no memory nothing changes.
+    pub(crate) fn add_opening(&mut self, event: M::Event) -> Result<(), AllocError>
+        requires own { M.Event.parts.dst event ≡ self.old.process.number }
+        requires suit { (M.behaviour self.old.process.model).suits event ≡ true }
+        ensures ok { OnOk result (self.new ≡ awaiting (simulation_of M.Event.parts M.Event.cmp (M.behaviour self.old.process.model)) event self.old) }
+        ensures err { OnErr result (self.new ≡ self.old) }
+    {
+        self.process.add_pending(event)
     }
 
     /// Its process.
@@ -64,18 +79,22 @@ impl<'a, M: ProcessModel> Member<'a, M> {
         &self.process
     }
 
-    /// How many events it handled in the last round.
-    pub(crate) fn handled(&self) -> u64 {
-        self.handled
+    /// What it did in the last round.
+    pub(crate) fn counts(&self) -> Counts {
+        self.counts
     }
 
-    /// It learns the bound, receives its mail, commits, and handles what is before the limit.
-    fn take_turn(&mut self, round: Round)
-        requires { MayTurn (simulation_of M.Event.parts M.Event.cmp (M.behaviour self.old.process.model)) (M.behaviour self.old.process.model).latest round self.old }
-        ensures { Keeps (simulation_of M.Event.parts M.Event.cmp (M.behaviour self.old.process.model)) round.stop (raised round.bound self.old) self.new }
+    /// It begins a round: it learns the bound, receives its mail, and commits. It is answered at which time it goes on, in
+    /// ticks: `u64::MAX` for never.
+    pub(crate) fn begin_round(&mut self, bound: u64) -> Result<u64, AllocError>
+        requires { (stop : ℕ) × IsSound (simulation_of M.Event.parts M.Event.cmp (M.behaviour self.old.process.model)) stop (raised bound self.old) }
+        ensures kept { KeepsTo (simulation_of M.Event.parts M.Event.cmp (M.behaviour self.old.process.model)) 0 (raised bound self.old) self.new }
+        ensures model { self.new.process.model ≡ self.old.process.model }
     {
-        self.raise_bound(round.bound);
-        self.refused = self.go_on(round.limit).err();
+        self.raise_bound(bound);
+        self.receive_all()?;
+        self.commit()?;
+        Ok(self.next_time())
     }
 
     /// It learns the bound, and has handled nothing in this round.
@@ -83,23 +102,8 @@ impl<'a, M: ProcessModel> Member<'a, M> {
         ensures { self.new ≡ raised bound self.old }
     {
         self.process.raise_bound(bound);
-        self.handled = 0;
-    }
-
-    /// It receives its mail, commits, and handles what is before the limit.
-    fn go_on(&mut self, limit: u64) -> Result<(), Refused>
-        requires sound { (stop : ℕ) × IsSound (simulation_of M.Event.parts M.Event.cmp (M.behaviour self.old.process.model)) stop self.old }
-        requires latest { limit ≤ (M.behaviour self.old.process.model).latest }
-        ensures kept { KeepsTo (simulation_of M.Event.parts M.Event.cmp (M.behaviour self.old.process.model)) limit self.old self.new }
-        ensures model { self.new.process.model ≡ self.old.process.model }
-    {
-        if self.receive_all().is_err() {
-            return Err(Refused::Memory);
-        }
-        if self.commit().is_err() {
-            return Err(Refused::Memory);
-        }
-        self.handle_all(limit)
+        self.refused = None;
+        self.counts = Counts::default();
     }
 
     /// It receives its mail.
@@ -137,18 +141,29 @@ impl<'a, M: ProcessModel> Member<'a, M> {
         Ok(())
     }
 
-    /// It handles its events before the limit, one after the other.
-    fn handle_all(&mut self, limit: u64) -> Result<(), Refused>
+    /// It receives a message. For want of memory it may have undone some events, and has not received it.
+    pub(crate) fn receive(&mut self, message: Signed<M::Event>) -> Result<(), AllocError>
+        requires { (stop : ℕ) × IsSound (simulation_of M.Event.parts M.Event.cmp (M.behaviour self.old.process.model)) stop (handed message self.old) }
+        ensures ok { OnOk result (KeepsTo (simulation_of M.Event.parts M.Event.cmp (M.behaviour self.old.process.model)) 0 (handed message self.old) self.new) }
+        ensures err { OnErr result (KeepsTo (simulation_of M.Event.parts M.Event.cmp (M.behaviour self.old.process.model)) 0 (handed message self.old) (handed message self.new)) }
+    {
+        receive(&mut self.process, message)
+    }
+
+    /// It handles its first event, where that is before the limit; a full counter is noted. It is answered at which time
+    /// it goes on, in ticks: `u64::MAX` for never.
+    pub(crate) fn advance(&mut self, limit: u64) -> Result<u64, AllocError>
         requires { limit ≤ (M.behaviour self.old.process.model).latest }
         ensures kept { KeepsTo (simulation_of M.Event.parts M.Event.cmp (M.behaviour self.old.process.model)) limit self.old self.new }
-        ensures model { self.new.process.model ≡ self.old.process.model }
     {
-        for _ in 0..MOST_EVENTS {
-            if !self.handle_next(limit)? {
-                break;
+        match self.handle_next(limit) {
+            Ok(_) => Ok(self.next_time()),
+            Err(Refused::Memory) => Err(AllocError),
+            Err(Refused::CounterFull) => {
+                self.refused = Some(Refused::CounterFull);
+                Ok(u64::MAX)
             }
         }
-        Ok(())
     }
 
     /// It handles its next event, where that is before the limit. It is answered whether it did.
@@ -161,7 +176,7 @@ impl<'a, M: ProcessModel> Member<'a, M> {
     {
         match self.process.handle_next(limit) {
             Ok(()) => {
-                self.handled = self.handled.saturating_add(1);
+                self.counts.handled = self.counts.handled.saturating_add(1);
                 Ok(true)
             }
             Err(Stopped::Memory) => Err(Refused::Memory),
@@ -198,9 +213,8 @@ impl<'a, M: ProcessModel> Member<'a, M> {
         ensures err { OnErr result (self.new ≡ self.old) }
         ensures unsent { OnErr result (flight.new.items ≡ flight.old.items) }
     {
-        flight.extend_from_slice(self.process.flight())?;
-        let _ = self.process.take_out();
-        Ok(())
+        self.counts.add_sent(self.process.flight());
+        self.process.move_out(flight)
     }
 
     /// It is handed a message. Where there is no memory nothing changes.
@@ -212,6 +226,43 @@ impl<'a, M: ProcessModel> Member<'a, M> {
         Ok(())
     }
 
+    /// The time of its first pending event, in ticks, or `u64::MAX`.
+    pub(crate) fn next_time(&self) -> u64 {
+        self.process.next_time().unwrap_or(u64::MAX)
+    }
+
+    /// What it has to send on is taken out of it.
+    pub(crate) fn take_sent(&mut self) -> Sent<M::Event>
+        ensures value { on_way result ≡ self.old.outbox }
+        ensures rest { self.new ≡ sent_on self.old }
+    {
+        let alloc = *self.mail.allocator();
+        mem::replace(&mut self.sent, Sent::new(alloc))
+    }
+
+    /// It has this to send on, and nothing else. Want of memory is noted.
+    pub(crate) fn end_round(&mut self, sent: Sent<M::Event>, wants_memory: bool)
+        ensures { self.new ≡ record self.old { outbox = on_way sent } }
+    {
+        self.sent = sent;
+        if wants_memory {
+            self.refused = Some(Refused::Memory);
+        }
+    }
+
+    /// What it has to send on goes behind `flight`. Where there is no memory nothing changes.
+    pub(crate) fn send_on(&mut self, flight: &mut Vec<Signed<M::Event>>) -> Result<(), AllocError>
+        ensures ok { OnOk result (self.new ≡ sent_on self.old) }
+        ensures sent { OnOk result (flight.new.items ≡ flight.old.items ++ self.old.outbox) }
+        ensures err { OnErr result (self.new ≡ self.old) }
+        ensures unsent { OnErr result (flight.new.items ≡ flight.old.items) }
+    {
+        let count = self.sent.far.len().saturating_add(self.sent.near.len());
+        flight.reserve(count)?;
+        flight.append(&mut self.sent.far)?;
+        flight.append(&mut self.sent.near)
+    }
+
     /// A time, in ticks, that is not beyond this one, nor beyond those of all that it has to handle, to receive or to
     /// send. It is the latest one.
     pub(crate) fn least_time(&self, time: u64) -> u64
@@ -219,19 +270,11 @@ impl<'a, M: ProcessModel> Member<'a, M> {
         ensures loose { let m = simulation_of M.Event.parts M.Event.cmp (M.behaviour self.now.process.model) in
             IsLawful m → NoneLooseBefore m result (place_of self.now) }
     {
-        let sent = least_among(self.process.flight(), time);
+        let far = least_among(&self.sent.far, time);
+        let near = least_among(&self.sent.near, far);
+        let sent = least_among(self.process.flight(), near);
         let mail = least_among(&self.mail, sent);
         self.process.least_time(mail)
-    }
-}
-
-impl<'a, M: ProcessModel> Turn for Member<'a, M> {
-    ghost may_turn = { λ round x. MayTurn (simulation_of M.Event.parts M.Event.cmp (M.behaviour x.process.model)) (M.behaviour x.process.model).latest round x };
-
-    ghost has_turned = { λ round x y. Keeps (simulation_of M.Event.parts M.Event.cmp (M.behaviour x.process.model)) round.stop (raised round.bound x) y };
-
-    fn turn(&mut self, round: Round) {
-        self.take_turn(round);
     }
 }
 

@@ -1,18 +1,19 @@
 //! A parallel run of a model.
 
-ghost use Rattle.std.specs.Prelude.{ℕ, ◌≡◌, ◌<◌, ◌≤◌, Some, IfOk, IsErrOf, OnOk, length, max, slice_get};
+ghost use Rattle.std.specs.Prelude.{ℕ, ◌≡◌, ◌<◌, ◌≤◌, IfOk, IsErrOf, OnOk, max};
 ghost use Rattle.tw_process.specs.Behaviour.{simulation_of};
 ghost use Rattle.tw_process.specs.declared.refused.Refused.TheVariants.{CounterFull};
-ghost use Rattle.tw_rounds.specs.Members.{opening_of};
 ghost use Rattle.tw_rounds.specs.Warp.{HasRun, IsOpening, IsRight, IsSameRun, IsStuck, handled};
 ghost use Rattle.tw_sim.specs.Seq.{at};
 ghost use Rattle.tw_sim.specs.Simulation.{state};
 
 use crate::counts::Counts;
-use crate::dealing::{count_handled, count_signs, deal, least_of, send_all, tell_all};
+use crate::dealing::{count_round, deal, least_of, send_all, tell_all};
+use crate::limits::WORTH_THREADS;
 use crate::member::Member;
+use crate::opening::open_all;
 use crate::turning::{Round, turn_all};
-use crate::window::{limit_of, next_window, threads_for};
+use crate::window::{limit_of, next_window, share_of, threads_for};
 use std::alloc::{AllocError, Global};
 use std::marker::Model;
 use std::sync::Wait;
@@ -35,7 +36,8 @@ pub struct TimeWarp<'a, M: ProcessModel> {
     bound: u64,
     stop: u64,
     window: u64,
-    // Of the last round.
+    // Of the last round; before the first one, as if several threads were worth it.
+    threads: usize,
     handled: u64,
     counts: Counts,
 }
@@ -67,7 +69,8 @@ impl<'a, M: ProcessModel> TimeWarp<'a, M> {
             bound: 0,
             stop: 0,
             window: model.lookahead(),
-            handled: 0,
+            threads: 1,
+            handled: WORTH_THREADS,
             counts: Counts::default(),
         })
     }
@@ -180,11 +183,13 @@ impl<'a, M: ProcessModel> TimeWarp<'a, M> {
     fn count(&mut self)
         ensures { self.new ≡ self.old }
     {
-        self.handled = count_handled(&self.members);
-        let (messages, antimessages) = count_signs(&self.flight);
-        self.counts.add_round(self.handled, messages, antimessages);
-        let lookahead = self.model.lookahead();
-        self.window = next_window(self.window, lookahead, self.handled, antimessages);
+        let round = count_round(&self.members);
+        self.handled = round.handled;
+        self.counts.add(round);
+        if self.threads > 1 {
+            let lookahead = self.model.lookahead();
+            self.window = next_window(self.window, lookahead, round);
+        }
     }
 
     /// The bound rises to the least time of all that waits or is on its way, and at most to the stop.
@@ -244,7 +249,7 @@ where
         unreachable!()
     }
 
-    /// Each process takes its turn, then what all have sent is dealt out, and the bound rises.
+    /// Each share of the processes takes its turn, then what is for others is dealt out, and the bound rises.
     fn round<R: Threads + Sync>(&mut self, rt: &R, workers: u32) -> Result<(), Refused>
         requires { self.old.bound < self.old.stop }
         ensures same { IsSameRun self.old self.new }
@@ -258,33 +263,19 @@ where
         met
     }
 
-    /// Each process takes its turn.
+    /// Each share of the processes takes its turn.
     fn turn<R: Threads + Sync>(&mut self, rt: &R, workers: u32)
         ensures same { IsSameRun self.old self.new }
         ensures bound { self.new.bound ≡ self.old.bound }
     {
+        self.threads = threads_for(workers, self.handled);
         let round = Round {
+            alloc: *self.flight.allocator(),
             bound: self.bound,
-            limit: limit_of(self.bound, self.window, self.stop),
+            limit: limit_of(self.threads, self.bound, self.window, self.stop),
             stop: self.stop,
         };
-        let threads = threads_for(workers, self.handled);
-        turn_all(rt, &mut self.members, threads, round);
+        let size = share_of(self.members.len(), self.threads);
+        turn_all(rt, &mut self.members, size, round);
     }
-}
-
-/// Every process as it begins, in ascending order.
-fn open_all<'a, M: ProcessModel>(
-    alloc: Global,
-    model: &'a M,
-) -> Result<Vec<Member<'a, M>>, AllocError>
-    ensures count { IfOk result (λ members. length members.items ≡ (M.behaviour model.now).processes) }
-    ensures each { IfOk result (λ members. (i : ℕ) (x : _) → slice_get members.items i ≡ Some x
-        → x ≡ opening_of (simulation_of M.Event.parts M.Event.cmp (M.behaviour model.now)) model.now i) }
-{
-    let mut members = Vec::new(alloc);
-    for number in 0..model.processes() {
-        members.push(Member::open(alloc, model, number)?)?;
-    }
-    Ok(members)
 }

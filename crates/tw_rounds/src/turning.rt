@@ -1,14 +1,21 @@
-//! All processes take their turns, in several threads.
+//! All processes take their turns, each share of them in a thread.
 
-ghost use Rattle.std.specs.Prelude.{ℕ, ◌≡◌, ◌<◌, Some, length, slice_get};
+ghost use Rattle.std.specs.Prelude.{ℕ, ◌≡◌, ◌*◌, ◌<◌, List, [], length};
+ghost use Rattle.std.specs.Fork.{IsChunk, slice_chunk};
 ghost use Rattle.tw_rounds.specs.declared.turning.Round.{Round as ARound};
 
+use crate::member::Member;
+use crate::share::take_turn;
+use std::alloc::Global;
 use std::thread;
 use std::thread::Threads;
+use tw_process::ProcessModel;
 
 /// What is to be done in a round.
 #[derive(Clone, Copy)]
 pub(crate) struct Round {
+    /// What gives memory.
+    pub(crate) alloc: Global,
     /// The bound, in ticks: nothing that comes is before it.
     pub(crate) bound: u64,
     /// Events are handled before this time.
@@ -17,29 +24,43 @@ pub(crate) struct Round {
     pub(crate) stop: u64,
 }
 
-/// What takes a turn in a round, as a thread knows it.
+/// What takes a turn in a round with others beside it, as a thread knows it.
 pub(crate) trait Turn {
-    ghost may_turn: { ARound → Self → Type 0 };
+    ghost may_turn: { ARound → ℕ → List Self → Type 0 };
 
-    ghost has_turned: { ARound → Self → Self → Type 0 };
+    ghost has_turned: { ARound → ℕ → List Self → List Self → Type 0 };
 
-    /// It takes its turn.
-    fn turn(&mut self, round: Round)
-        requires { may_turn round self.old }
-        ensures { has_turned round self.old self.new };
+    /// Those of a share take their turn, which begins at this number.
+    fn turn(share: &mut [Self], start: usize, round: Round)
+        requires some { 0 < length share.old }
+        requires may { may_turn round start share.old }
+        ensures { has_turned round start share.old share.new };
 }
 
-/// Each takes its turn, in so many threads at most.
+impl<'a, M: ProcessModel> Turn for Member<'a, M> {
+    ghost use Rattle.std.specs.Prelude.{[]};
+    ghost use Rattle.tw_rounds.specs.Shares.{IsShare, KeepsRule};
+
+    ghost may_turn = { λ round start xs. IsShare M.Event.parts M.Event.cmp M.behaviour round start xs [] };
+
+    ghost has_turned = { λ round start xs ys. KeepsRule M.Event.parts M.Event.cmp M.behaviour round start xs [] ys [] };
+
+    fn turn(share: &mut [Self], start: usize, round: Round) {
+        take_turn(share, start, round);
+    }
+}
+
+/// Each share, of so many, takes its turn, in a thread of its own where one can be made.
 pub(crate) fn turn_all<W: Turn + Send, R: Threads + Sync>(
     rt: &R,
     all: &mut [W],
-    threads: usize,
+    size: usize,
     round: Round,
 )
-    requires threads { 0 < threads }
-    requires may { (i : ℕ) (x : W) → slice_get all.old i ≡ Some x → W.may_turn round x }
+    requires size { 0 < size }
+    requires may { (start : ℕ) (share : List W) → IsChunk all.old size start share → W.may_turn round start share }
     ensures count { length all.new ≡ length all.old }
-    ensures turned { (i : ℕ) (x y : W) → slice_get all.old i ≡ Some x → slice_get all.new i ≡ Some y → W.has_turned round x y }
+    ensures turned { (n : ℕ) → n * size < length all.old → W.has_turned round (n * size) (slice_chunk all.old size n) (slice_chunk all.new size n) }
 {
-    thread::for_each_mut(rt, all, threads, &|_, one| one.turn(round));
+    thread::for_each_chunk_mut(rt, all, size, &|start, share| W::turn(share, start, round));
 }

@@ -1,0 +1,272 @@
+//! A share of the processes takes its turn: again and again the first event among them is handled.
+//!
+//! What is sent within the share is received at once, so that nothing of it comes late. What is for others stays until
+//! the end of the round.
+
+ghost use Rattle.std.specs.Prelude.{◌≡◌, ◌+◌, ◌<◌, ◌++◌, ◌∷◌, [], List, Some, OnErr, OnOk, length, slice_get};
+ghost use Rattle.tw_rounds.specs.Shares.{GoesOn, IsShare, IsLast, KeepsRule, on_way};
+
+use crate::limits::MOST_MESSAGES;
+use crate::member::Member;
+use crate::schedule::Schedule;
+use crate::sent::Sent;
+use crate::turning::Round;
+use crate::window::most_events;
+use std::alloc::AllocError;
+use tw_process::{ProcessModel, Refused, Timed};
+use tw_sim::Signed;
+
+/// The share of processes that begins at this number takes its turn.
+pub(crate) fn take_turn<M: ProcessModel>(members: &mut [Member<'_, M>], start: usize, round: Round)
+    requires some { 0 < length members.old }
+    requires share { IsShare M.Event.parts M.Event.cmp M.behaviour round start members.old [] }
+    ensures { KeepsRule M.Event.parts M.Event.cmp M.behaviour round start members.old [] members.new [] }
+{
+    let mut sent = take_sent(members, start, round);
+    let went = go_on(members, start, round, &mut sent);
+    keep_sent(members, start, round, sent, went.is_err());
+}
+
+/// What the share had to send on is on its way.
+fn take_sent<M: ProcessModel>(
+    members: &mut [Member<'_, M>],
+    start: usize,
+    round: Round,
+) -> Sent<M::Event>
+    requires some { 0 < length members.old }
+    ensures rule { KeepsRule M.Event.parts M.Event.cmp M.behaviour round start members.old [] members.new (on_way result) }
+    ensures empty { (x : _) → slice_get members.new 0 ≡ Some x → x.outbox ≡ [] }
+{
+    members[0].take_sent()
+}
+
+/// The share has all that is on its way to send on. Want of memory is noted.
+fn keep_sent<M: ProcessModel>(
+    members: &mut [Member<'_, M>],
+    start: usize,
+    round: Round,
+    sent: Sent<M::Event>,
+    wants_memory: bool,
+)
+    requires some { 0 < length members.old }
+    requires empty { (x : _) → slice_get members.old 0 ≡ Some x → x.outbox ≡ [] }
+    ensures { KeepsRule M.Event.parts M.Event.cmp M.behaviour round start members.old (on_way sent) members.new [] }
+{
+    members[0].end_round(sent, wants_memory);
+}
+
+/// All begin the round, and then handle their events before its limit, the first one first.
+fn go_on<M: ProcessModel>(
+    members: &mut [Member<'_, M>],
+    start: usize,
+    round: Round,
+    sent: &mut Sent<M::Event>,
+) -> Result<(), AllocError>
+    requires share { IsShare M.Event.parts M.Event.cmp M.behaviour round start members.old (on_way sent.old) }
+    ensures { GoesOn M.Event.parts M.Event.cmp M.behaviour round start members.old (on_way sent.old) members.new (on_way sent.new) }
+{
+    let mut schedule = Schedule::new(round.alloc, members.len())?;
+    begin_all(members, start, round, sent, &mut schedule)?;
+    settle(members, start, round, sent, &mut schedule)?;
+    handle_all(members, start, round, sent, &mut schedule)
+}
+
+/// All begin the round.
+fn begin_all<M: ProcessModel>(
+    members: &mut [Member<'_, M>],
+    start: usize,
+    round: Round,
+    sent: &mut Sent<M::Event>,
+    schedule: &mut Schedule,
+) -> Result<(), AllocError>
+    requires share { IsShare M.Event.parts M.Event.cmp M.behaviour round start members.old (on_way sent.old) }
+    ensures { GoesOn M.Event.parts M.Event.cmp M.behaviour round start members.old (on_way sent.old) members.new (on_way sent.new) }
+{
+    for place in 0..members.len() {
+        let time = begin_at(members, start, round, place)?;
+        schedule.set(place, time);
+        send_at(members, start, round, place, sent)?;
+    }
+    Ok(())
+}
+
+/// The process at this place begins the round. It is answered at which time it goes on, in ticks.
+fn begin_at<M: ProcessModel>(
+    members: &mut [Member<'_, M>],
+    start: usize,
+    round: Round,
+    place: usize,
+) -> Result<u64, AllocError>
+    requires here { place < length members.old }
+    requires share { (sent : _) × IsShare M.Event.parts M.Event.cmp M.behaviour round start members.old sent }
+    ensures { (sent : _) → GoesOn M.Event.parts M.Event.cmp M.behaviour round start members.old sent members.new sent }
+{
+    members[place].begin_round(round.bound)
+}
+
+/// What the process at this place has sent is on its way.
+fn send_at<M: ProcessModel>(
+    members: &mut [Member<'_, M>],
+    start: usize,
+    round: Round,
+    place: usize,
+    sent: &mut Sent<M::Event>,
+) -> Result<(), AllocError>
+    requires { place < length members.old }
+    ensures { GoesOn M.Event.parts M.Event.cmp M.behaviour round start members.old (on_way sent.old) members.new (on_way sent.new) }
+{
+    members[place].send_out(&mut sent.near)
+}
+
+/// Events before the limit are handled, the first one first.
+fn handle_all<M: ProcessModel>(
+    members: &mut [Member<'_, M>],
+    start: usize,
+    round: Round,
+    sent: &mut Sent<M::Event>,
+    schedule: &mut Schedule,
+) -> Result<(), AllocError>
+    requires share { IsShare M.Event.parts M.Event.cmp M.behaviour round start members.old (on_way sent.old) }
+    ensures { GoesOn M.Event.parts M.Event.cmp M.behaviour round start members.old (on_way sent.old) members.new (on_way sent.new) }
+{
+    for _ in 0..most_events(members.len()) {
+        let Some(place) = schedule.first_before(round.limit) else {
+            break;
+        };
+        handle_next(members, start, round, place, sent, schedule)?;
+    }
+    Ok(())
+}
+
+/// The process at this place handles its first event, and what is sent within the share is received.
+fn handle_next<M: ProcessModel>(
+    members: &mut [Member<'_, M>],
+    start: usize,
+    round: Round,
+    place: usize,
+    sent: &mut Sent<M::Event>,
+    schedule: &mut Schedule,
+) -> Result<(), AllocError>
+    requires share { IsShare M.Event.parts M.Event.cmp M.behaviour round start members.old (on_way sent.old) }
+    ensures { GoesOn M.Event.parts M.Event.cmp M.behaviour round start members.old (on_way sent.old) members.new (on_way sent.new) }
+{
+    if place >= members.len() {
+        return Ok(());
+    }
+    let time = handle_at(members, start, round, place)?;
+    schedule.set(place, time);
+    send_at(members, start, round, place, sent)?;
+    settle(members, start, round, sent, schedule)
+}
+
+/// The process at this place handles its first event, where that is before the limit. It is answered at which time it
+/// goes on, in ticks.
+fn handle_at<M: ProcessModel>(
+    members: &mut [Member<'_, M>],
+    start: usize,
+    round: Round,
+    place: usize,
+) -> Result<u64, AllocError>
+    requires here { place < length members.old }
+    requires share { (sent : _) × IsShare M.Event.parts M.Event.cmp M.behaviour round start members.old sent }
+    ensures { (sent : _) → GoesOn M.Event.parts M.Event.cmp M.behaviour round start members.old sent members.new sent }
+{
+    members[place].advance(round.limit)
+}
+
+/// What was sent within the share is received, and so is what that sends in its turn.
+fn settle<M: ProcessModel>(
+    members: &mut [Member<'_, M>],
+    start: usize,
+    round: Round,
+    sent: &mut Sent<M::Event>,
+    schedule: &mut Schedule,
+) -> Result<(), AllocError>
+    requires share { IsShare M.Event.parts M.Event.cmp M.behaviour round start members.old (on_way sent.old) }
+    ensures { GoesOn M.Event.parts M.Event.cmp M.behaviour round start members.old (on_way sent.old) members.new (on_way sent.new) }
+{
+    for _ in 0..MOST_MESSAGES {
+        let Some(message) = sent.near.last() else {
+            break;
+        };
+        let message = *message;
+        deal(members, start, round, message, sent, schedule)?;
+    }
+    Ok(())
+}
+
+/// The last message that was not looked at is received, where it is for a process of the share.
+fn deal<M: ProcessModel>(
+    members: &mut [Member<'_, M>],
+    start: usize,
+    round: Round,
+    message: Signed<M::Event>,
+    sent: &mut Sent<M::Event>,
+    schedule: &mut Schedule,
+) -> Result<(), AllocError>
+    requires last { IsLast message sent.old.near.items }
+    requires share { IsShare M.Event.parts M.Event.cmp M.behaviour round start members.old (on_way sent.old) }
+    ensures { GoesOn M.Event.parts M.Event.cmp M.behaviour round start members.old (on_way sent.old) members.new (on_way sent.new) }
+{
+    let number = message.event.dst() as usize;
+    if number < start || number - start >= members.len() {
+        return pass_on(members, start, round, message, sent);
+    }
+    let place = number - start;
+    receive_last(members, start, round, place, message, sent)?;
+    schedule.set(place, members[place].next_time());
+    send_at(members, start, round, place, sent)
+}
+
+/// The last message that was not looked at is for another share.
+fn pass_on<M: ProcessModel>(
+    members: &mut [Member<'_, M>],
+    start: usize,
+    round: Round,
+    message: Signed<M::Event>,
+    sent: &mut Sent<M::Event>,
+) -> Result<(), AllocError>
+    requires last { IsLast message sent.old.near.items }
+    ensures { GoesOn M.Event.parts M.Event.cmp M.behaviour round start members.old (on_way sent.old) members.new (on_way sent.new) }
+{
+    sent.far.push(message)?;
+    let _ = sent.near.pop();
+    Ok(())
+}
+
+/// The process at this place receives the last message that was not looked at.
+fn receive_last<M: ProcessModel>(
+    members: &mut [Member<'_, M>],
+    start: usize,
+    round: Round,
+    place: usize,
+    message: Signed<M::Event>,
+    sent: &mut Sent<M::Event>,
+) -> Result<(), AllocError>
+    requires here { place < length members.old }
+    requires own { M.Event.parts.dst message.event ≡ start + place }
+    requires last { IsLast message sent.old.near.items }
+    requires share { IsShare M.Event.parts M.Event.cmp M.behaviour round start members.old (on_way sent.old) }
+    ensures { GoesOn M.Event.parts M.Event.cmp M.behaviour round start members.old (on_way sent.old) members.new (on_way sent.new) }
+{
+    receive_at(members, start, round, place, message)?;
+    let _ = sent.near.pop();
+    Ok(())
+}
+
+/// The process at this place receives a message that is on its way.
+fn receive_at<M: ProcessModel>(
+    members: &mut [Member<'_, M>],
+    start: usize,
+    round: Round,
+    place: usize,
+    message: Signed<M::Event>,
+) -> Result<(), AllocError>
+    requires here { place < length members.old }
+    requires own { M.Event.parts.dst message.event ≡ start + place }
+    requires share { (sent : _) × IsShare M.Event.parts M.Event.cmp M.behaviour round start members.old (sent ++ message ∷ []) }
+    ensures ok { (sent : _) → OnOk result (GoesOn M.Event.parts M.Event.cmp M.behaviour round start members.old (sent ++ message ∷ []) members.new sent) }
+    ensures err { (sent : _) → OnErr result (GoesOn M.Event.parts M.Event.cmp M.behaviour round start members.old (sent ++ message ∷ []) members.new (sent ++ message ∷ [])) }
+{
+    members[place].receive(message)
+}
