@@ -42,14 +42,14 @@ fn are_same(phold: &Phold, one: &Sequential<'_, Phold>, several: &TimeWarp<'_, P
 
 #[test]
 fn phold_by_one_thread(rt: HostRuntime) {
-    if let Some(phold) = Phold::new(512, 8, 1, 20, 1000, 7) {
-        assert!(rt; agree(&rt, rt.alloc(), &phold, 1, 40) == Some(true));
+    if let Some(phold) = Phold::new(2048, 16, 1, 20, 1000, 7) {
+        assert!(rt; agree(&rt, rt.alloc(), &phold, 1, 10) == Some(true));
     }
 }
 
 #[test]
 fn phold_by_three_threads(rt: HostRuntime) {
-    if let Some(phold) = Phold::new(512, 8, 1, 20, 1000, 7) {
-        assert!(rt; agree(&rt, rt.alloc(), &phold, 3, 40) == Some(true));
+    if let Some(phold) = Phold::new(2048, 16, 1, 20, 1000, 7) {
+        assert!(rt; agree(&rt, rt.alloc(), &phold, 3, 10) == Some(true));
     }
 }
