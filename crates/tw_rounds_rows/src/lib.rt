@@ -2,4 +2,6 @@
 #![tactic(auto)]
 
 #[cfg(test)]
+mod epidemics;
+#[cfg(test)]
 mod runs;

@@ -40,16 +40,18 @@ fn are_same(phold: &Phold, one: &Sequential<'_, Phold>, several: &TimeWarp<'_, P
     true
 }
 
+/// Whether both engines leave the same states of 2,048 processes, the parallel one by so many threads.
+fn agree_by<R: Threads + Wait + Sync>(rt: &R, alloc: Global, workers: u32) -> Option<bool> {
+    let phold = Phold::new(2048, 16, 1, 20, 1000, 7)?;
+    agree(rt, alloc, &phold, workers, 10)
+}
+
 #[test]
 fn phold_by_one_thread(rt: HostRuntime) {
-    if let Some(phold) = Phold::new(512, 8, 1, 20, 1000, 7) {
-        assert!(rt; agree(&rt, rt.alloc(), &phold, 1, 40) == Some(true));
-    }
+    assert!(rt; agree_by(&rt, rt.alloc(), 1) == Some(true));
 }
 
 #[test]
 fn phold_by_three_threads(rt: HostRuntime) {
-    if let Some(phold) = Phold::new(512, 8, 1, 20, 1000, 7) {
-        assert!(rt; agree(&rt, rt.alloc(), &phold, 3, 40) == Some(true));
-    }
+    assert!(rt; agree_by(&rt, rt.alloc(), 3) == Some(true));
 }
