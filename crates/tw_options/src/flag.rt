@@ -12,10 +12,13 @@ use std::alloc::{AllocError, Global};
 
 /// A flag `--id`, which may be left out.
 #[derive(Clone, Copy)]
-pub(crate) struct Flag {
-    pub(crate) id: &'static str,
-    pub(crate) help: &'static str,
-    pub(crate) long_help: &'static str,
+pub struct Flag {
+    /// The name, without its hyphens.
+    pub id: &'static str,
+    /// What the help says of it.
+    pub help: &'static str,
+    /// What the long help says of it.
+    pub long_help: &'static str,
 }
 
 pub(crate) const LOG: Flag = Flag {
@@ -56,11 +59,7 @@ pub(crate) const STATS: Flag = Flag {
 
 impl Flag {
     /// The command with this flag behind its other options.
-    pub(crate) fn add_to<'a>(
-        self,
-        command: Command<'a>,
-        alloc: Global,
-    ) -> Result<Command<'a>, AllocError>
+    pub fn add_to<'a>(self, command: Command<'a>, alloc: Global) -> Result<Command<'a>, AllocError>
         requires { (fields_of command).has_globals ≡ false }
         ensures app { IfOk result (λ added. app_of added ≡ with_rule (app_of command.entry) (flag_rule self.id.now)) }
         ensures local { IfOk result (λ added. (fields_of added).has_globals ≡ false) }
@@ -81,7 +80,7 @@ impl Flag {
 
     /// Whether it is set.
     // As `get_flag`, whose contract leaves open what it answers where the text is no truth value.
-    pub(crate) fn is_set(self, given: &ArgMatches<'_>) -> bool
+    pub fn is_set(self, given: &ArgMatches<'_>) -> bool
         ensures { Sets self.id.now (rows_of (found_of given.now)) result }
     {
         given.get_one::<bool>(self.id).unwrap_or(false)

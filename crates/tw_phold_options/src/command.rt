@@ -5,12 +5,17 @@ ghost use Rattle.clap.specs.Words.{app_of};
 ghost use Rattle.clap.specs.declared.builder.command.Command.TheViews.{out-Command as fields_of};
 ghost use Rattle.tw_phold_options.specs.App.{asking_app, measured_app, phold_app, run_app, seq_app};
 
-use crate::flag::STATS;
 use crate::help;
 use crate::numbers::{LONGEST, LOOKAHEAD, POPULATION, PROCESSES, REMOTE, SEED, STOP, WORKERS};
 use clap::Command;
 use std::alloc::{AllocError, Global};
-use tw_options::Page;
+use tw_options::{Flag, Page};
+
+pub(crate) const STATS: Flag = Flag {
+    id: "stats",
+    help: help::STATS,
+    long_help: help::STATS,
+};
 
 /// The whole command.
 pub(crate) fn twarp_phold<'a>(alloc: Global) -> Result<Command<'a>, AllocError>

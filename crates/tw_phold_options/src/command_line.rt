@@ -7,7 +7,7 @@ ghost use Rattle.tw_phold_options.specs.Fit.{HasPhold, IsFit};
 ghost use Rattle.tw_phold_options.specs.Says.{Says, SaysBy, SaysPhold};
 ghost use Rattle.tw_phold_options.specs.declared.numbers.TheConstants.{MOST_WORKERS};
 
-use crate::flag::STATS;
+use crate::command::STATS;
 use crate::numbers::{
     LONGEST, LONGEST_IF_NONE, LOOKAHEAD, LOOKAHEAD_IF_NONE, POPULATION, POPULATION_IF_NONE,
     PROCESSES, PROCESSES_IF_NONE, REMOTE, REMOTE_IF_NONE, SEED, SEED_IF_NONE, STOP, WORKERS,

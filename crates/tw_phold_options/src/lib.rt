@@ -1,6 +1,6 @@
 //! The command line of the program `twarp-phold`: which run its words ask for, by whom, and with which numbers.
 //!
-//! It is parsed as `tw_options` parses that of `twarp`, whose number options, faults and lemmas it takes: clap parses
+//! It is parsed as `tw_options` parses that of `twarp`, whose number options, flags, faults and lemmas it takes: clap parses
 //! the words, contracts see the command that clap is given as the `App` that `specs/App` writes out, and `specs/Says`
 //! says which command line a match is.
 //!
@@ -18,7 +18,6 @@ ghost use Rattle.tw_phold_options.specs.Says.{Says};
 
 mod command;
 mod command_line;
-mod flag;
 mod help;
 mod numbers;
 
