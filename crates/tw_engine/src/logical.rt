@@ -22,7 +22,7 @@ use std::alloc::{AllocError, Global};
 use std::marker::Model;
 use std::mem;
 use tw_core::Refusal;
-use tw_pending::Pending;
+use tw_pending::EventHeap;
 use tw_process::laws::model_is_lawful;
 use tw_process::{ProcessModel, Timed};
 use tw_sim::Signed;
@@ -35,8 +35,8 @@ use tw_sim::Signed;
 #[derive(Drop)]
 pub struct LogicalProcess<'a, M: ProcessModel> {
     past: Past<'a, M>,
-    pending: Pending<M::Event>,
-    kept: Pending<M::Event>,
+    pending: EventHeap<M::Event>,
+    kept: EventHeap<M::Event>,
     flight: Vec<Signed<M::Event>>,
     sends: Vec<M::Event>,
     bound: u64,
@@ -70,8 +70,8 @@ impl<'a, M: ProcessModel> LogicalProcess<'a, M> {
         let sends = Vec::with_capacity(alloc, model.most_sends())?;
         Ok(LogicalProcess {
             past,
-            pending: Pending::new(alloc),
-            kept: Pending::new(alloc),
+            pending: EventHeap::new(alloc),
+            kept: EventHeap::new(alloc),
             flight: Vec::new(alloc),
             sends,
             bound: 0,
@@ -94,7 +94,7 @@ impl<'a, M: ProcessModel> LogicalProcess<'a, M> {
         Ok(LogicalProcess {
             past,
             pending,
-            kept: Pending::new(alloc),
+            kept: EventHeap::new(alloc),
             flight: Vec::new(alloc),
             sends,
             bound: 0,
@@ -385,7 +385,7 @@ impl<'a, M: ProcessModel> LogicalProcess<'a, M> {
 }
 
 /// The least of a time, in ticks, and of the times of some events.
-fn least_of<M: ProcessModel>(model: &M, events: &Pending<M::Event>, time: u64) -> u64
+fn least_of<M: ProcessModel>(model: &M, events: &EventHeap<M::Event>, time: u64) -> u64
     ensures { result ≡ least_time (simulation_of M.Event.parts M.Event.cmp (M.behaviour model.now)) events.now time }
 {
     model_is_lawful(model);
@@ -400,12 +400,12 @@ fn pending_of<M: ProcessModel>(
     alloc: Global,
     model: &M,
     number: u32,
-) -> Result<Pending<M::Event>, AllocError>
+) -> Result<EventHeap<M::Event>, AllocError>
     ensures own { IfOk result (λ p. AreOwn (simulation_of M.Event.parts M.Event.cmp (M.behaviour model.now)) number p) }
     ensures pending { let m = simulation_of M.Event.parts M.Event.cmp (M.behaviour model.now) in IfOk result (λ p. p ≡ insert_all m (only m number m.opening) []) }
 {
     model_is_lawful(model);
-    let mut pending = Pending::new(alloc);
+    let mut pending = EventHeap::new(alloc);
     let openings = model.openings(alloc)?;
     for event in &openings {
         put_own(model, number, &mut pending, *event)?;
@@ -417,7 +417,7 @@ fn pending_of<M: ProcessModel>(
 fn put_own<M: ProcessModel>(
     model: &M,
     number: u32,
-    pending: &mut Pending<M::Event>,
+    pending: &mut EventHeap<M::Event>,
     event: M::Event,
 ) -> Result<(), AllocError>
     requires suits { (M.behaviour model.now).suits event ≡ true }

@@ -11,7 +11,7 @@ use crate::past::Past;
 use crate::stopped::Stopped;
 use std::alloc::AllocError;
 use tw_core::Refusal;
-use tw_pending::Pending;
+use tw_pending::EventHeap;
 use tw_process::{ProcessModel, Refused, Timed};
 use tw_sim::Signed;
 
@@ -31,7 +31,7 @@ pub(crate) fn put_out<E: Copy>(flight: &mut Vec<Signed<E>>, events: &[E], plus: 
 /// The process handles its first pending event, where that is before the stop, whatever it keeps and its bound.
 pub(crate) fn handle_first<M: ProcessModel>(
     past: &mut Past<'_, M>,
-    pending: &mut Pending<M::Event>,
+    pending: &mut EventHeap<M::Event>,
     flight: &mut Vec<Signed<M::Event>>,
     sends: &mut Vec<M::Event>,
     stop: u64,
@@ -84,7 +84,7 @@ pub(crate) fn handle_first<M: ProcessModel>(
 /// The process undoes the newest event that it can undo, whatever it keeps and its bound.
 pub(crate) fn undo_newest<M: ProcessModel>(
     past: &mut Past<'_, M>,
-    pending: &mut Pending<M::Event>,
+    pending: &mut EventHeap<M::Event>,
     flight: &mut Vec<Signed<M::Event>>,
     sends: &mut Vec<M::Event>,
 ) -> Result<(), AllocError>

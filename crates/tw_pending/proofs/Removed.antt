@@ -252,3 +252,26 @@ module _ {E : Type 0} (cmp : E → E → Ordering) where
       pub told_none : (found : Bool) → OnFalse found (AreWith cmp [] (tick ++ waiting_in items days) was) → OnFalse found (all_in cmp begun items left ≡ in_order cmp was)
       told_none true h = tt
       told_none false h = same_there h
+
+    -- ---- out of a heap alone
+
+    module _ (e : E) (items left : List (Reverse E)) where
+      heap_with : AreWith cmp (e ∷ []) (events_of left) (events_of items) → AreWith cmp (e ∷ []) (waiting_in left []) (waiting_in items [])
+      heap_with h = λ d.
+          let a = h d in
+          let b = count-append cmp d (events_of left) [] in
+          let c = count-append cmp d (events_of items) [] in
+          omega arith
+
+      heap_without : count cmp e (events_of items) ≡ 0 → count cmp e (waiting_in items []) ≡ 0
+      heap_without h = (let b = count-append cmp e (events_of items) [] in omega arith)
+
+      pub heap_value : (found : Bool) → OnTrue found (AreWith cmp (e ∷ []) (events_of left) (events_of items)) → OnFalse found (count cmp e (events_of items) ≡ 0)
+          → found ≡ nat_lt 0 (count cmp e (all_in cmp [] items []))
+      heap_value true h k = some_there e (waiting_in items []) [] [] left [] [] (λ d. refl) (heap_with h)
+      heap_value false h k = none_there e (waiting_in items []) [] [] left [] [] (λ d. refl) (heap_without k)
+
+      pub heap_rest : (found : Bool) → OnTrue found (AreWith cmp (e ∷ []) (events_of left) (events_of items)) → OnFalse found (left ≡ items) → OnFalse found (count cmp e (events_of items) ≡ 0)
+          → all_in cmp [] left [] ≡ take_out (is_same cmp) e (all_in cmp [] items [])
+      heap_rest true h same k = one_less e (waiting_in items []) [] [] left [] [] (λ d. refl) (heap_with h)
+      heap_rest false h same k = none_less e (waiting_in items []) [] [] left [] [] (λ d. refl) (heap_without k) (λ d. (let is = ap (λ zs. count cmp d (waiting_in zs [])) same in omega arith))

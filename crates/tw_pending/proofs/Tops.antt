@@ -3,6 +3,7 @@ use Rattle.std.proofs.Common.{◌≡◌, ℕ, ◌+◌, ◌<◌, ◌≤◌, Bool,
 use Rattle.std.specs.Cmp.{IsTotalOrder}
 use Rattle.std.specs.Bool.{OnFalse, OnTrue}
 use Rattle.std.specs.List.{AllByRecursion}
+use Rattle.std.specs.List.Sorted.{IsPermutation}
 use Rattle.std.specs.Ordering.{is_lt}
 use Rattle.std.specs.declared.cmp.Ordering.{Ordering}
 use Rattle.std.specs.declared.cmp.Ordering.TheVariants.{Equal, Greater, Less}
@@ -12,7 +13,7 @@ use Rattle.tw_sim.proofs.Ordered.{counted_is, in_cons, not_back, not_before}
 use Rattle.tw_pending.specs.Order.{AreWith, IsInOrder, count, in_order, is_before, is_same}
 use Rattle.tw_pending.specs.Ring.{IsDue, IsRing, all_in, all_of, events_of, waiting_in}
 use Rattle.tw_pending.proofs.All.{count-append}
-use Rattle.tw_pending.proofs.Counts.{first_is, law, own, without_first, without_none}
+use Rattle.tw_pending.proofs.Counts.{first_is, law, own, popped, without_first, without_none}
 use Rattle.tw_pending.proofs.Days.{all_later, nil, some_of}
 
 lt_less : (o : Ordering) → is_lt o ≡ true → o ≡ Less
@@ -99,6 +100,34 @@ module _ {E : Type 0} (cmp : E → E → Ordering) (order : IsTotalOrder cmp) (e
       let d = count-append cmp e (events_of left) (all_of days) in
       let f = count-append cmp e (events_of items) (all_of days) in
       omega arith
+
+  -- what is with the events of a heap is with all, where nothing else waits
+  pub among_all : (more : List E) (items left : List (Reverse E)) → AreWith cmp more (events_of items) (events_of left) → AreWith cmp more (waiting_in items []) (waiting_in left [])
+  among_all more items left h = λ e.
+      let a = h e in
+      let b = count-append cmp e (events_of items) [] in
+      let c = count-append cmp e (events_of left) [] in
+      omega arith
+
+  -- the top of a heap is the first of all, where nothing else waits
+  pub first_of_heap : (x : Reverse E) (items : List (Reverse E)) → 0 < length items → x ≡ get_or items 0 x → AllByRecursion (λ y. is_lt (cmp y.0 x.0) ≡ false) items
+      → slice_get (all_in cmp [] items []) 0 ≡ Some x.0
+  first_of_heap x items some at top =
+      let sum = λ (e : E). count-append cmp e (events_of items) [] in
+      first_is cmp order exact (waiting_in items []) x.0 (let s = sum x.0 in let c = first_counted (events_of items) x.0 (top_at x items some at) in omega arith)
+      (λ e there. top_least x items top e (let s = sum e in omega arith))
+
+  -- and so is what is taken out of a heap
+  pub first_popped : (x : Reverse E) (items left : List (Reverse E)) → IsPermutation items (x ∷ left) → AllByRecursion (λ y. is_lt (cmp y.0 x.0) ≡ false) left
+      → slice_get (all_in cmp [] items []) 0 ≡ Some x.0
+  first_popped x items left permuted top =
+      let gone = popped cmp x items left permuted in
+      let sum = λ (e : E). count-append cmp e (events_of items) [] in
+      first_is cmp order exact (waiting_in items []) x.0 (let s = sum x.0 in let g = gone x.0 in let o = own cmp order exact x.0 in omega arith)
+      (λ e there. elim (in_cons (is_before cmp) (is_same cmp) (law cmp order exact) e x.0 (events_of left) (let s = sum e in let g = gone e in omega arith)) [
+        | inl same ↦ subst (λ z. is_before cmp z x.0 ≡ false) (sym same) ((law cmp order exact).not_self x.0)
+        | inr k ↦ top_least x left top e k
+      ])
 
   module _ (time : E → ℕ) (timely : (d e : E) → cmp d e ≡ Less → time d ≤ time e) (today waiting : ℕ) (tick : List E) (items : List (Reverse E)) (days : List (List E))
       (ring : IsRing time today waiting days) (due : IsDue time today cmp waiting (tick ++ events_of items)) where

@@ -16,7 +16,7 @@ use tw_process::Timed;
 
 /// Events that wait, as contracts see them in rising order.
 ///
-/// Those of the next ticks may stand in a list for each tick, which is put in order when its tick begins, and all others
+/// Those of the next ticks stand in a list for each tick, which is put in order when its tick begins, and all others
 /// stand in a heap.
 #[derive(Drop)]
 pub struct Pending<E: Timed> {
@@ -42,23 +42,8 @@ impl<E: Timed> Model for Pending<E> {
 }
 
 impl<E: Timed> Pending<E> {
-    /// No events, and no lists of ticks: it takes no memory until an event comes. It suits few events.
-    pub fn new(alloc: Global) -> Pending<E>
-        ensures { result ≡ [] }
-    {
-        Pending {
-            tick: Tick::new(alloc),
-            heap: BinaryHeap::new(alloc),
-            ring: Ring {
-                today: 0,
-                waiting: 0,
-                days: Vec::new(alloc),
-            },
-        }
-    }
-
-    /// No events, with lists of ticks. It suits many events, most of them less than 1,024 ticks ahead.
-    pub fn with_ticks(alloc: Global) -> Result<Pending<E>, AllocError>
+    /// No events. It suits many events, most of them less than 1,024 ticks ahead.
+    pub fn new(alloc: Global) -> Result<Pending<E>, AllocError>
         ensures { IfOk result (λ pending. pending ≡ []) }
     {
         let mut days = Vec::new(alloc);

@@ -52,7 +52,7 @@ impl<'a, M: ProcessModel> Sequential<'a, M> {
         ensures value { IfOk result (λ run. run ≡ opening_run (simulation_of M.Event.parts M.Event.cmp (M.behaviour model.now)) model.now) }
     {
         let states = opening_states(alloc, model)?;
-        let mut pending = Pending::with_ticks(alloc)?;
+        let mut pending = Pending::new(alloc)?;
         pending.insert_all(&model.openings(alloc)?)?;
         let sends = Vec::with_capacity(alloc, model.most_sends())?;
         Ok(Sequential {

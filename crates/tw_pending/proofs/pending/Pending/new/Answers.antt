@@ -4,7 +4,7 @@ use Rattle.std.proofs.lemmas.List.{length-map}
 use Rattle.std.specs.List.{AllByRecursion}
 use Rattle.tw_pending.specs.Ring.{all_of, lists_of}
 use Rattle.tw_pending.proofs.Days.{all_empty, more_empty}
-use Rattle.tw_pending.proofs.pending.Pending.with_ticks.Goals as goal
+use Rattle.tw_pending.proofs.pending.Pending.new.Goals as goal
 
 pub loop-preserved : goal.loop-preserved
 loop-preserved g c = record {

@@ -1,6 +1,6 @@
 use Rattle.std.proofs.Common.{◌≡◌, length}
 use Rattle.tw_pending.specs.Ring.{all_of, lists_of}
-use Rattle.tw_pending.proofs.pending.Pending.with_ticks.Given as goal
+use Rattle.tw_pending.proofs.pending.Pending.new.Given as goal
 
 -- so many lists, with nothing in them
 abbrev pub invariant-loop : goal.invariant-loop
