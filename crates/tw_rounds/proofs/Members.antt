@@ -17,14 +17,14 @@ use Rattle.tw_sim.proofs.Counts.{in_cons}
 use Rattle.tw_sim.specs.declared.machine.Signed.{Signed}
 use Rattle.tw_sim.specs.Simulation.{Simulation, IsLawful, state, times}
 
--- a process with some mail, and what it has to send on
-abbrev pub mailed : {M E : Type 0} → Logical M E → List (Signed E) → List (Signed E) → Mailed M E
-mailed p mail outbox = record { process = p; mail = mail; outbox = outbox }
+-- a process with some mail, what it has to send on, and the time that it tells
+abbrev pub mailed : {M E : Type 0} → Logical M E → List (Signed E) → List (Signed E) → ℕ → Mailed M E
+mailed p mail outbox least = record { process = p; mail = mail; outbox = outbox; least = least }
 
 -- the place of a process that has become another
 moved_place : {M E : Type 0} (stop : ℕ) (x : Mailed M E) (q : Logical M E) (mail : List (Signed E)) → q.number ≡ x.process.number
-    → with_core (process_core stop q) (record (place_of x) { mail = mail }) ≡ place_of (mailed q mail x.outbox)
-moved_place stop x q mail same = ap (λ n. record (place_of (mailed q mail x.outbox)) { worker = n; owns = λ r. r == n }) (sym same)
+    → with_core (process_core stop q) (record (place_of x) { mail = mail }) ≡ place_of (mailed q mail x.outbox x.least)
+moved_place stop x q mail same = ap (λ n. record (place_of (mailed q mail x.outbox x.least)) { worker = n; owns = λ r. r == n }) (sym same)
 
 module _ {S E : Type 0} (m : Simulation S E) where
   -- what is handled before a stop is handled so before a later one
@@ -90,13 +90,13 @@ module _ {S M E : Type 0} (m : Simulation S E) where
 
   -- a process that has become another, in a way that its place keeps
   became : (stop : ℕ) (x : Mailed M E) (q : Logical M E) (mail : List (Signed E)) → q.model ≡ x.process.model → q.number ≡ x.process.number
-      → PreservesPlace m stop (place_of x) (with_core (process_core stop q) (record (place_of x) { mail = mail })) → Keeps m stop x (mailed q mail x.outbox)
+      → PreservesPlace m stop (place_of x) (with_core (process_core stop q) (record (place_of x) { mail = mail })) → Keeps m stop x (mailed q mail x.outbox x.least)
   became stop x q mail model number keeps = record { model = model; number = number; outbox = refl; place = subst (PreservesPlace m stop (place_of x)) (moved_place stop x q mail number) keeps }
 
   -- it has handled an event before the limit
   pub handled : (limit : ℕ) (x : Mailed M E) (q : Logical M E) → q.model ≡ x.process.model → q.number ≡ x.process.number
       → handle m (process_core limit x.process) x.process.number (first_pending m (process_core limit x.process) x.process.number) ≡ Ok (process_core limit q)
-      → KeepsTo m limit x (mailed q x.mail x.outbox)
+      → KeepsTo m limit x (mailed q x.mail x.outbox x.least)
   handled limit x q model number done stop le sound =
       became stop x q x.mail model number
       (keeps_handle m sound.law stop x.process.number (place_of x) (process_core stop q) sound.place
@@ -104,7 +104,7 @@ module _ {S M E : Type 0} (m : Simulation S E) where
 
   -- it has committed
   pub committed : (x : Mailed M E) (q : Logical M E) → q ≡ committed_at m x.process → ((stop : ℕ) → process_core stop q ≡ with_commit m (process_core stop x.process) x.process.number)
-      → KeepsTo m 0 x (mailed q x.mail x.outbox)
+      → KeepsTo m 0 x (mailed q x.mail x.outbox x.least)
   committed x q is core stop le sound =
       became stop x q x.mail (ap (λ p. p.model) is) (ap (λ p. p.number) is)
       (subst (λ C. PreservesPlace m stop (place_of x) (with_core C (place_of x))) (sym (core stop)) (keeps_commit m sound.law stop x.process.number (place_of x) sound.place))
@@ -123,7 +123,7 @@ module _ {S M E : Type 0} (m : Simulation S E) where
 
     -- it has been received
     pub received : (q : Logical M E) (left : List (Signed E)) → left ≡ rest → q.model ≡ x.process.model → q.number ≡ x.process.number
-        → ((stop : ℕ) → process_core stop q ≡ after_arrival m (process_core stop x.process) s) → KeepsTo m 0 x (mailed q left x.outbox)
+        → ((stop : ℕ) → process_core stop q ≡ after_arrival m (process_core stop x.process) s) → KeepsTo m 0 x (mailed q left x.outbox x.least)
     received q left same model number core stop le sound =
         let p = place_of x in
         let kept = keeps_receive m sound.law stop (length rest) p s sound.place there in
@@ -134,7 +134,7 @@ module _ {S M E : Type 0} (m : Simulation S E) where
 
     -- or there was no memory for it
     pub met : (q : Logical M E) → q.model ≡ x.process.model → q.number ≡ x.process.number → ((stop : ℕ) → IsRolledBack m s.event (process_core stop x.process) (process_core stop q))
-        → KeepsTo m 0 x (mailed q x.mail x.outbox)
+        → KeepsTo m 0 x (mailed q x.mail x.outbox x.least)
     met q model number back stop le sound =
         became stop x q x.mail model number (keeps_roll_back m sound.law stop (length rest) (place_of x) s (process_core stop q) sound.place there (back stop))
 
@@ -145,12 +145,12 @@ module _ {S M E : Type 0} (m : Simulation S E) (x : Mailed M E) (s : Signed E) w
 
   -- it has been received
   pub handed_received : (q : Logical M E) → q.model ≡ x.process.model → q.number ≡ x.process.number → ((stop : ℕ) → process_core stop q ≡ after_arrival m (process_core stop x.process) s)
-      → KeepsTo m 0 (handed s x) (mailed q x.mail x.outbox)
+      → KeepsTo m 0 (handed s x) (mailed q x.mail x.outbox x.least)
   handed_received q model number core = received m (handed s x) x.mail s refl q x.mail refl model number core
 
   -- or there was no memory for it
   pub handed_met : (q : Logical M E) → q.model ≡ x.process.model → q.number ≡ x.process.number → ((stop : ℕ) → IsRolledBack m s.event (process_core stop x.process) (process_core stop q))
-      → KeepsTo m 0 (handed s x) (handed s (mailed q x.mail x.outbox))
+      → KeepsTo m 0 (handed s x) (handed s (mailed q x.mail x.outbox x.least))
   handed_met q model number back = met m (handed s x) x.mail s refl q model number back
 
 -- a message that is for a process, suits it and is not before its bound is not refused

@@ -7,7 +7,7 @@ use Rattle.tw_core.specs.Machine.{antimessages, messages}
 use Rattle.tw_process.specs.Behaviour.{Behaviour, simulation_of}
 use Rattle.tw_process.specs.Parts.{Parts}
 use Rattle.tw_rounds.proofs.Lists.{get_among, last_is, map_set, set_among, set_same, within}
-use Rattle.tw_rounds.proofs.Stages.{may_turn_at, one_begun, one_kept, one_kept_aside, one_met, one_received, one_sent, one_sent_on, reordered, sound_at, would_sound}
+use Rattle.tw_rounds.proofs.Stages.{may_turn_at, one_begun, one_kept, one_kept_aside, one_met, one_received, one_sent, one_sent_on, one_told, reordered, sound_at, would_sound}
 use Rattle.tw_rounds.specs.Members.{IsSound, KeepsTo, Mailed, handed, raised, sent_on, taken_out}
 use Rattle.tw_rounds.specs.Ruled.{AreRuled}
 use Rattle.tw_rounds.specs.Shares.{GoesOn, IsLast, IsShare, KeepsRule, RuledAmong}
@@ -190,6 +190,11 @@ module _ {S M E : Type 0} (parts : Parts E) (cmp : E → E → Ordering) (behavi
     sends (Err u) y far near out ok sent err unsent =
         subst (λ fs. Goes xs (far ++ near) (set xs i y) (far ++ fs)) (sym unsent)
         (subst (λ z. Goes xs (far ++ near) (set xs i z) (far ++ near)) (sym err) (unchanged (far ++ near)))
+
+    -- it tells a time
+    pub told : (t : ℕ) → KeepsRule parts cmp behaviour round start xs [] (set xs i (record x { least = t })) []
+    told t = becomes [] [] (record x { least = t }) (λ model front back others from ruled.
+        one_told (sim model) model round.stop round.bound (others ++ []) (front ++ xs ++ back) ruled (start + i) x (there front back from) t)
 
     -- what it has to send on is on its way
     pub taken : KeepsRule parts cmp behaviour round start xs [] (set xs i (sent_on x)) x.outbox

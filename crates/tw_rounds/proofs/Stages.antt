@@ -54,6 +54,12 @@ module _ {S M E : Type 0} (m : Simulation S E) where
         one_given flight i x y at keeps.number keeps.model
         (may_stay m ruled.law self (board_of (length xs) flight bound stop) (place_of x) (place_of y) ruled.rule.board (stands_at i x at) keeps.place)
 
+    -- one tells a time
+    pub one_told : (i : ℕ) (x : Mailed M E) → slice_get xs i ≡ Some x → (t : ℕ) → AreRuled m model stop bound flight (set xs i (record x { least = t }))
+    one_told i x at t =
+        one_given flight i x (record x { least = t }) at refl refl
+        (may_stay m ruled.law self (board_of (length xs) flight bound stop) (place_of x) (place_of x) ruled.rule.board (stands_at i x at) (keeps_same m stop x (sound_at i x at)).place)
+
     -- one has begun a round
     pub one_begun : (i : ℕ) (x y : Mailed M E) → slice_get xs i ≡ Some x → Keeps m stop (raised bound x) y → AreRuled m model stop bound flight (set xs i y)
     one_begun i x y at keeps =
@@ -112,13 +118,12 @@ module _ {S M E : Type 0} (m : Simulation S E) where
           (may_hand m ruled.law (length xs) bound stop flight (place_of x) ruled.rule.board (stands_at (m.dst s.event) x at) rest s is
           (eq-eqb (m.dst s.event) x.process.number (sym (ruled.each (m.dst s.event) x at).0)))
 
-      -- and is so where the process of that number has just this more
-      pub handed_ruled : (n : ℕ) (ys : List (Mailed M E)) → n ≡ m.dst s.event → ((x : Mailed M E) → slice_get xs n ≡ Some x → ys ≡ set xs n (record x { mail = x.mail ++ s ∷ [] }))
-          → AreRuled m model stop bound rest ys
-      handed_ruled n ys same h =
-          let x = there_at xs (m.dst s.event) receiver_there in
-          let is_it = subst (λ k. (z : Mailed M E) → slice_get xs k ≡ Some z → ys ≡ set xs k (record z { mail = z.mail ++ s ∷ [] })) same h in
-          subst (AreRuled m model stop bound rest) (sym (is_it x.0 x.1)) (one_handed x.0 x.1)
+    -- a process has the last message on its way to send on
+    pub kept_ruled : (rest : List (Signed E)) (s : Signed E) → flight ≡ rest ++ s ∷ [] → (n : ℕ) (ys : List (Mailed M E)) → n < length xs
+        → ((x : Mailed M E) → slice_get xs n ≡ Some x → ys ≡ set xs n (record x { outbox = x.outbox ++ s ∷ [] })) → AreRuled m model stop bound rest ys
+    kept_ruled rest s is n ys l h =
+        let x = there_at xs n l in
+        subst (AreRuled m model stop bound rest) (sym (h x.0 x.1)) (one_kept_aside rest (s ∷ []) is n x.0 x.1)
 
     -- nothing has changed
     pub still_ruled : (n : ℕ) (ys : List (Mailed M E)) → n < length xs → ((x : Mailed M E) → slice_get xs n ≡ Some x → ys ≡ set xs n x) → AreRuled m model stop bound flight ys

@@ -1,23 +1,32 @@
 -- What all shares keep of the rule, once each has taken its turn.
-use Rattle.std.proofs.Common.{◌≡◌, ℕ, zero, suc, ◌+◌, ◌*◌, ◌<◌, ◌≤◌, List, [], ◌++◌, append_assoc, drop, drop-drop, length, length-take-le, take, take-add, take_all, ap, sym, ◌∙◌, subst, inl, inr, arith}
+use Rattle.std.proofs.Common.{◌≡◌, ℕ, zero, suc, ◌+◌, ◌-◌, ◌*◌, ◌<◌, ◌≤◌, List, [], ◌∷◌, ◌++◌, Some, append_assoc, drop, drop-drop, length, length-take-le, slice_get, take, take-add, take_all, ap, sym, ◌∙◌, subst, inl, inr, arith}
 use Rattle.std.proofs.lemmas.Bool.{cases_lt}
 use Rattle.std.proofs.lemmas.List.{append-nil, drop_all, take-append-drop}
 use Rattle.std.specs.Fork.{slice_chunk}
 use Rattle.std.specs.declared.cmp.Ordering.{Ordering}
 use Rattle.tw_process.specs.Behaviour.{Behaviour, simulation_of}
 use Rattle.tw_process.specs.Parts.{Parts}
-use Rattle.tw_rounds.specs.Members.{Mailed}
+use Rattle.tw_rounds.proofs.Lists.{there_at, within}
+use Rattle.tw_rounds.specs.Members.{Mailed, place_of}
 use Rattle.tw_rounds.specs.Ruled.{AreRuled}
-use Rattle.tw_rounds.specs.Shares.{IsShare, KeepsRule}
+use Rattle.tw_rounds.specs.Shares.{IsShare, KeepsRule, TellsLeast}
 use Rattle.tw_rounds.specs.declared.turning.Round.{Round}
+use Rattle.tw_rule.specs.Place.{NoneLooseBefore}
 use Rattle.tw_sim.specs.declared.machine.Signed.{Signed}
+use Rattle.tw_sim.specs.Simulation.{IsLawful}
 
 -- a part of a list, with what stands before it and behind it
 parted : {X : Type 0} (start size : ℕ) (xs : List X) → take start xs ++ take size (drop start xs) ++ drop (start + size) xs ≡ xs
 parted start size xs = ap (λ zs. zs ++ drop (start + size) xs) (sym (take-add start size xs)) ∙ take-append-drop (start + size) xs
 
+-- more factors make no less
+pub not_less : (k n size : ℕ) → k ≤ n → k * size ≤ n * size
+not_less zero n size le = omega arith
+not_less (suc k) zero size le = absurd (omega arith)
+not_less (suc k) (suc n) size le = (let more = not_less k n size (omega arith) in omega arith)
+
 -- as many products as factors are enough
-enough : (n size : ℕ) → 0 < size → n ≤ n * size
+pub enough : (n size : ℕ) → 0 < size → n ≤ n * size
 enough zero size l = omega arith
 enough (suc n) size l = (let more = enough n size l in omega arith)
 
@@ -80,3 +89,41 @@ module _ {S M E : Type 0} (parts : Parts E) (cmp : E → E → Ordering) (behavi
     -- all have taken their turns
     pub all_turned : Ruled flight xs → Ruled flight ys
     all_turned ruled = subst (Ruled flight) (over (length xs) (enough (length xs) size some)) (so_many ruled (length xs))
+
+-- what stands in a list stands in its front, or behind it
+get_take : {X : Type 0} (m : ℕ) (xs : List X) (k : ℕ) (x : X) → k < m → slice_get xs k ≡ Some x → slice_get (take m xs) k ≡ Some x
+get_take zero xs k x l h = absurd (omega arith)
+get_take (suc m) [] k x l h = cc
+get_take (suc m) (y ∷ ys) zero x l h = h
+get_take (suc m) (y ∷ ys) (suc k) x l h = get_take m ys k x (omega arith) h
+
+get_drop : {X : Type 0} (m : ℕ) (xs : List X) (k : ℕ) (x : X) → slice_get xs (m + k) ≡ Some x → slice_get (drop m xs) k ≡ Some x
+get_drop zero xs k x h = subst (λ n. slice_get xs n ≡ Some x) {y = k} (omega arith) h
+get_drop (suc m) [] k x h = cc
+get_drop (suc m) (y ∷ ys) k x h = get_drop m ys k x (subst (λ n. slice_get (y ∷ ys) n ≡ Some x) {y = suc (m + k)} (omega arith) h)
+
+-- and what stands in all stands in its share
+get_chunk : {X : Type 0} (xs : List X) (size n k : ℕ) (x : X) → k < size → slice_get xs (n * size + k) ≡ Some x → slice_get (slice_chunk xs size n) k ≡ Some x
+get_chunk xs size n k x l h = get_take size (drop (n * size) xs) k x l (get_drop (n * size) xs k x h)
+
+module _ {S M E : Type 0} (parts : Parts E) (cmp : E → E → Ordering) (behaviour : M → Behaviour S E) (size least : ℕ) (ys : List (Mailed M E))
+    (each : (n : ℕ) → n * size < length ys → TellsLeast parts cmp behaviour (slice_chunk ys size n)) (low : (n : ℕ) (x : Mailed M E) → slice_get ys (n * size) ≡ Some x → least ≤ x.least) where
+  -- the least of what so many shares tell
+  told_by : (n i : ℕ) (y : Mailed M E) → i < n * size → slice_get ys i ≡ Some y → IsLawful (simulation_of parts cmp (behaviour y.process.model)) → NoneLooseBefore (simulation_of parts cmp (behaviour y.process.model)) least (place_of y)
+  told_by zero i y l at law = absurd (omega arith)
+  told_by (suc n) i y l at law = elim (cases_lt i (n * size)) [
+    | inl lt ↦ told_by n i y lt at law
+    | inr ge ↦
+        let start = n * size in
+        let inside = within ys i y at in
+        let first = there_at ys start (omega arith) in
+        let begins = get_chunk ys size n 0 first.0 (omega arith) (subst (λ k. slice_get ys k ≡ Some first.0) {y = start + 0} (omega arith) first.1) in
+        let here = get_chunk ys size n (i - start) y (omega arith) (subst (λ k. slice_get ys k ≡ Some y) {y = start + (i - start)} (omega arith) at) in
+        let told = each n (omega arith) first.0 begins (i - start) y here law in
+        let le = low n first.0 first.1 in
+        λ e h. (let old = told e h in omega arith)
+  ]
+
+  -- of what all tell
+  pub all_told : 0 < size → (i : ℕ) (y : Mailed M E) → slice_get ys i ≡ Some y → IsLawful (simulation_of parts cmp (behaviour y.process.model)) → NoneLooseBefore (simulation_of parts cmp (behaviour y.process.model)) least (place_of y)
+  all_told some i y at = told_by (length ys) i y (let inside = within ys i y at in let all = enough (length ys) size some in omega arith) at

@@ -1,4 +1,4 @@
--- A logical process with its mail, as a place of the rule (own, after Jefferson, Virtual Time, 1985).
+-- A logical process with what its share has to send on, as a place of the rule (own, after Jefferson, Virtual Time, 1985).
 use Rattle.std.specs.Prelude.{ℕ, ◌==◌, ◌≡◌, ◌≤◌, ◌^◌, List, [], ◌∷◌, ◌++◌, Err, length, max}
 use Rattle.tw_core.specs.Steps.{first_pending, handle, put}
 use Rattle.tw_core.specs.declared.refusal.Refusal.TheVariants.{CounterFull}
@@ -9,12 +9,14 @@ use Rattle.tw_sim.specs.declared.machine.Signed.{Signed}
 use Rattle.tw_sim.specs.Seq.{insert, insert_all}
 use Rattle.tw_sim.specs.Simulation.{IsLawful, Simulation, only}
 
--- a process, the messages that it was handed and has not received, and those that it has to send on
+-- a process, the messages that it was handed and has not received, and those that it has to send on, and the time that it
+-- tells for its share
 pub record Mailed (M E : Type 0) : Type 0 where
   pub process : Logical M E
   -- the one that is received first stands last
   pub mail : List (Signed E)
   pub outbox : List (Signed E)
+  pub least : ℕ
 
 module _ {M E : Type 0} where
   -- the process as a place of its own, whose worker has its number
@@ -42,6 +44,7 @@ module _ {M E : Type 0} where
     process = record { model = model; number = number; ahead = []; past = []; pending = []; kept = []; flight = []; done = 0; bound = 0 };
     mail = [];
     outbox = [];
+    least = 0;
   }
 
   -- the process knows this bound, or its own where that is later

@@ -1,13 +1,15 @@
 -- A share of the processes of a run: those that one thread has in a round (own, after Jefferson, Virtual Time, 1985).
-use Rattle.std.specs.Prelude.{ℕ, ◌-◌, ◌≡◌, ◌≤◌, List, Some, ◌++◌, length, map, slice_get}
+use Rattle.std.specs.Prelude.{ℕ, ◌-◌, ◌≡◌, ◌≤◌, List, [], Some, ◌++◌, length, map, slice_get}
 use Rattle.std.specs.declared.cmp.Ordering.{Ordering}
 use Rattle.tw_process.specs.Behaviour.{Behaviour, simulation_of}
 use Rattle.tw_process.specs.Parts.{Parts}
-use Rattle.tw_rounds.specs.Members.{Mailed}
+use Rattle.tw_rounds.specs.Members.{Mailed, place_of}
 use Rattle.tw_rounds.specs.Ruled.{AreRuled}
 use Rattle.tw_rounds.specs.declared.sent.Sent.{Sent}
 use Rattle.tw_rounds.specs.declared.turning.Round.{Round}
+use Rattle.tw_rule.specs.Place.{NoneLooseBefore}
 use Rattle.tw_sim.specs.declared.machine.Signed.{Signed}
+use Rattle.tw_sim.specs.Simulation.{IsLawful}
 
 -- what a share has sent and is on its way
 abbrev pub on_way : {E : Type 0} → Sent E → List (Signed E)
@@ -45,3 +47,16 @@ module _ {S M E : Type 0} (parts : Parts E) (cmp : E → E → Ordering) (behavi
   pub record GoesOn (xs : List (Mailed M E)) (sent : List (Signed E)) (ys : List (Mailed M E)) (more : List (Signed E)) : Type 0 where
     pub outboxes : map (λ x. x.outbox) ys ≡ map (λ x. x.outbox) xs
     pub rule : KeepsRule xs sent ys more
+
+module _ {S M E : Type 0} (parts : Parts E) (cmp : E → E → Ordering) (behaviour : M → Behaviour S E) where
+  -- the first of some processes tells a time before which nothing is loose at any of them
+  abbrev pub TellsLeast : List (Mailed M E) → Type 0
+  TellsLeast xs =
+      (first : Mailed M E) → slice_get xs 0 ≡ Some first
+      → (i : ℕ) (x : Mailed M E) → slice_get xs i ≡ Some x → let m = simulation_of parts cmp (behaviour x.process.model) in
+      IsLawful m → NoneLooseBefore m first.least (place_of x)
+
+  -- what a share has done in its turn: the rule is kept, and its first process tells the least time
+  pub record HasTurned (round : Round) (start : ℕ) (xs ys : List (Mailed M E)) : Type 0 where
+    pub rule : KeepsRule parts cmp behaviour round start xs [] ys []
+    pub told : TellsLeast ys

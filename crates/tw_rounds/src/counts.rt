@@ -24,6 +24,11 @@ impl Counts {
         self.antimessages = self.antimessages.saturating_add(other.antimessages);
     }
 
+    /// Adds one event, where it was handled.
+    pub(crate) fn add_handled(&mut self, has_handled: bool) {
+        self.handled = self.handled.saturating_add(u64::from(has_handled));
+    }
+
     /// Adds these messages, each as a message or as an antimessage.
     pub(crate) fn add_sent<E>(&mut self, sent: &[Signed<E>]) {
         for message in sent {

@@ -12,6 +12,7 @@
 
 mod counts;
 mod dealing;
+mod least;
 mod limits;
 mod member;
 mod opening;

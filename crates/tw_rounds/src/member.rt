@@ -1,4 +1,4 @@
-//! A logical process with its mail.
+//! A logical process with what its share has to send on.
 
 ghost use Rattle.std.specs.Prelude.{ℕ, ◌+◌, ◌^◌, ◌≡◌, ◌<◌, ◌≤◌, ◌++◌, ◌∷◌, [], true, IfOk, IsErrOf, OnErr, OnOk};
 ghost use Rattle.tw_core.specs.Steps.{IsRolledBack, after_arrival};
@@ -21,25 +21,22 @@ use tw_engine::{LogicalProcess, Stopped, Unreceived};
 use tw_process::{ProcessModel, Refused, Timed};
 use tw_sim::Signed;
 
-/// A process with the messages that it was handed and has not received.
+/// A process. The first one of a share keeps what the share has to send on, between its turns.
 #[derive(Drop)]
 pub(crate) struct Member<'a, M: ProcessModel> {
     process: LogicalProcess<'a, M>,
-    // The one to be received first stands last.
-    mail: Vec<Signed<M::Event>>,
     sent: Sent<M::Event>,
-    // Why it did not go on in the last round, and what it did there.
-    refused: Option<Refused>,
-    counts: Counts,
+    least: u64,
 }
 
 impl<'a, M: ProcessModel> Model for Member<'a, M> {
+    ghost use Rattle.std.specs.Prelude.{[]};
     ghost use Rattle.tw_rounds.specs.Members.{Mailed};
     ghost use Rattle.tw_rounds.specs.Shares.{on_way};
 
     ghost Value = { Mailed M M.Event };
 
-    ghost view = { λ a. record { process = a.process; mail = a.mail.items; outbox = on_way a.sent } };
+    ghost view = { λ a. record { process = a.process; mail = []; outbox = on_way a.sent; least = a.least } };
 }
 
 impl<'a, M: ProcessModel> Member<'a, M> {
@@ -55,10 +52,8 @@ impl<'a, M: ProcessModel> Member<'a, M> {
         let process = LogicalProcess::begin(alloc, model, number)?;
         Ok(Member {
             process,
-            mail: Vec::new(alloc),
             sent: Sent::new(alloc),
-            refused: None,
-            counts: Counts::default(),
+            least: 0,
         })
     }
 
@@ -79,57 +74,30 @@ impl<'a, M: ProcessModel> Member<'a, M> {
         &self.process
     }
 
-    /// What it did in the last round.
+    /// What its share did in the last round.
     pub(crate) fn counts(&self) -> Counts {
-        self.counts
+        self.sent.counts
     }
 
-    /// It begins a round: it learns the bound, receives its mail, and commits. It is answered at which time it goes on, in
-    /// ticks: `u64::MAX` for never.
-    pub(crate) fn begin_round(&mut self, bound: u64) -> Result<u64, AllocError>
-        requires { (stop : ℕ) × IsSound (simulation_of M.Event.parts M.Event.cmp (M.behaviour self.old.process.model)) stop (raised bound self.old) }
+    /// Why one of its share did not go on in the last round.
+    pub(crate) fn refused(&self) -> Option<Refused> {
+        self.sent.refused
+    }
+
+    /// It begins a round: it learns the bound, and commits.
+    pub(crate) fn begin_round(&mut self, bound: u64) -> Result<(), AllocError>
         ensures kept { KeepsTo (simulation_of M.Event.parts M.Event.cmp (M.behaviour self.old.process.model)) 0 (raised bound self.old) self.new }
         ensures model { self.new.process.model ≡ self.old.process.model }
     {
         self.raise_bound(bound);
-        self.receive_all()?;
-        self.commit()?;
-        Ok(self.next_time())
+        self.commit()
     }
 
-    /// It learns the bound, and has handled nothing in this round.
+    /// It learns the bound.
     fn raise_bound(&mut self, bound: u64)
         ensures { self.new ≡ raised bound self.old }
     {
         self.process.raise_bound(bound);
-        self.refused = None;
-        self.counts = Counts::default();
-    }
-
-    /// It receives its mail.
-    fn receive_all(&mut self) -> Result<(), AllocError>
-        requires { (stop : ℕ) × IsSound (simulation_of M.Event.parts M.Event.cmp (M.behaviour self.old.process.model)) stop self.old }
-        ensures kept { KeepsTo (simulation_of M.Event.parts M.Event.cmp (M.behaviour self.old.process.model)) 0 self.old self.new }
-        ensures model { self.new.process.model ≡ self.old.process.model }
-    {
-        for _ in 0..self.mail.len() {
-            self.receive_next()?;
-        }
-        Ok(())
-    }
-
-    /// It receives the next message of its mail, if there is one.
-    fn receive_next(&mut self) -> Result<(), AllocError>
-        requires { (stop : ℕ) × IsSound (simulation_of M.Event.parts M.Event.cmp (M.behaviour self.old.process.model)) stop self.old }
-        ensures kept { KeepsTo (simulation_of M.Event.parts M.Event.cmp (M.behaviour self.old.process.model)) 0 self.old self.new }
-        ensures model { self.new.process.model ≡ self.old.process.model }
-    {
-        let Some(message) = self.mail.last() else {
-            return Ok(());
-        };
-        receive(&mut self.process, *message)?;
-        let _ = self.mail.pop();
-        Ok(())
     }
 
     /// Its events before the bound become committed.
@@ -150,24 +118,8 @@ impl<'a, M: ProcessModel> Member<'a, M> {
         receive(&mut self.process, message)
     }
 
-    /// It handles its first event, where that is before the limit; a full counter is noted. It is answered at which time
-    /// it goes on, in ticks: `u64::MAX` for never.
-    pub(crate) fn advance(&mut self, limit: u64) -> Result<u64, AllocError>
-        requires { limit ≤ (M.behaviour self.old.process.model).latest }
-        ensures kept { KeepsTo (simulation_of M.Event.parts M.Event.cmp (M.behaviour self.old.process.model)) limit self.old self.new }
-    {
-        match self.handle_next(limit) {
-            Ok(_) => Ok(self.next_time()),
-            Err(Refused::Memory) => Err(AllocError),
-            Err(Refused::CounterFull) => {
-                self.refused = Some(Refused::CounterFull);
-                Ok(u64::MAX)
-            }
-        }
-    }
-
     /// It handles its next event, where that is before the limit. It is answered whether it did.
-    fn handle_next(&mut self, limit: u64) -> Result<bool, Refused>
+    pub(crate) fn handle_next(&mut self, limit: u64) -> Result<bool, Refused>
         requires { limit ≤ (M.behaviour self.old.process.model).latest }
         ensures kept { KeepsTo (simulation_of M.Event.parts M.Event.cmp (M.behaviour self.old.process.model)) limit self.old self.new }
         ensures model { self.new.process.model ≡ self.old.process.model }
@@ -175,34 +127,10 @@ impl<'a, M: ProcessModel> Member<'a, M> {
         ensures full { IsErrOf result CounterFull → IsFullBefore (simulation_of M.Event.parts M.Event.cmp (M.behaviour self.old.process.model)) limit self.new.process }
     {
         match self.process.handle_next(limit) {
-            Ok(()) => {
-                self.counts.handled = self.counts.handled.saturating_add(1);
-                Ok(true)
-            }
+            Ok(()) => Ok(true),
             Err(Stopped::Memory) => Err(Refused::Memory),
             Err(Stopped::Refused(Refusal::CounterFull)) => Err(Refused::CounterFull),
             Err(Stopped::Refused(_)) => Ok(false),
-        }
-    }
-
-    /// Tells why the run does not go on, where this process is the cause: it had no memory, or a counter is full for its
-    /// first event and that is at the bound.
-    pub(crate) fn tell(&mut self, bound: u64) -> Result<(), Refused>
-        requires latest { bound < (M.behaviour self.old.process.model).latest }
-        requires fits { bound + 1 < 2 ^ 64 }
-        ensures kept { KeepsTo (simulation_of M.Event.parts M.Event.cmp (M.behaviour self.old.process.model)) (bound + 1) self.old self.new }
-        ensures model { self.new.process.model ≡ self.old.process.model }
-        ensures number { self.new.process.number ≡ self.old.process.number }
-        ensures full { IsErrOf result CounterFull → IsFullBefore (simulation_of M.Event.parts M.Event.cmp (M.behaviour self.old.process.model)) (bound + 1) self.new.process }
-    {
-        match self.refused {
-            None => Ok(()),
-            Some(Refused::Memory) => Err(Refused::Memory),
-            // What it met may have been a later event, or one that is taken back meanwhile.
-            Some(Refused::CounterFull) => {
-                let _ = self.handle_next(bound + 1)?;
-                Ok(())
-            }
         }
     }
 
@@ -213,16 +141,15 @@ impl<'a, M: ProcessModel> Member<'a, M> {
         ensures err { OnErr result (self.new ≡ self.old) }
         ensures unsent { OnErr result (flight.new.items ≡ flight.old.items) }
     {
-        self.counts.add_sent(self.process.flight());
         self.process.move_out(flight)
     }
 
-    /// It is handed a message. Where there is no memory nothing changes.
-    pub(crate) fn hand(&mut self, message: Signed<M::Event>) -> Result<(), AllocError>
-        ensures ok { OnOk result (self.new ≡ record self.old { mail = self.old.mail ++ message ∷ [] }) }
+    /// A message is to be looked at by its share. Where there is no memory nothing changes.
+    pub(crate) fn keep(&mut self, message: Signed<M::Event>) -> Result<(), AllocError>
+        ensures ok { OnOk result (self.new ≡ record self.old { outbox = self.old.outbox ++ message ∷ [] }) }
         ensures err { OnErr result (self.new ≡ self.old) }
     {
-        self.mail.push(message)?;
+        self.sent.near.push(message)?;
         Ok(())
     }
 
@@ -231,13 +158,18 @@ impl<'a, M: ProcessModel> Member<'a, M> {
         self.process.next_time().unwrap_or(u64::MAX)
     }
 
-    /// What it has to send on is taken out of it.
+    /// What it has to send on is taken out of it, for a new round.
     pub(crate) fn take_sent(&mut self) -> Sent<M::Event>
         ensures value { on_way result ≡ self.old.outbox }
         ensures rest { self.new ≡ sent_on self.old }
     {
-        let alloc = *self.mail.allocator();
-        mem::replace(&mut self.sent, Sent::new(alloc))
+        let alloc = *self.sent.far.allocator();
+        let sent = mem::replace(&mut self.sent, Sent::new(alloc));
+        Sent {
+            counts: Counts::default(),
+            refused: None,
+            ..sent
+        }
     }
 
     /// It has this to send on, and nothing else. Want of memory is noted.
@@ -246,8 +178,22 @@ impl<'a, M: ProcessModel> Member<'a, M> {
     {
         self.sent = sent;
         if wants_memory {
-            self.refused = Some(Refused::Memory);
+            self.sent.refused = Some(Refused::Memory);
         }
+    }
+
+    /// It tells this time, in ticks, for its share.
+    pub(crate) fn put_least(&mut self, least: u64)
+        ensures { self.new ≡ record self.old { least = least } }
+    {
+        self.least = least;
+    }
+
+    /// The time, in ticks, that it tells for its share.
+    pub(crate) fn least(&self) -> u64
+        ensures { result ≡ self.now.least }
+    {
+        self.least
     }
 
     /// What it has to send on goes behind `flight`. Where there is no memory nothing changes.
@@ -273,8 +219,7 @@ impl<'a, M: ProcessModel> Member<'a, M> {
         let far = least_among(&self.sent.far, time);
         let near = least_among(&self.sent.near, far);
         let sent = least_among(self.process.flight(), near);
-        let mail = least_among(&self.mail, sent);
-        self.process.least_time(mail)
+        self.process.least_time(sent)
     }
 }
 

@@ -4,8 +4,9 @@
 //! the end of the round.
 
 ghost use Rattle.std.specs.Prelude.{◌≡◌, ◌+◌, ◌<◌, ◌++◌, ◌∷◌, [], List, Some, OnErr, OnOk, length, slice_get};
-ghost use Rattle.tw_rounds.specs.Shares.{GoesOn, IsShare, IsLast, KeepsRule, on_way};
+ghost use Rattle.tw_rounds.specs.Shares.{GoesOn, HasTurned, IsShare, IsLast, KeepsRule, TellsLeast, on_way};
 
+use crate::least::least_of;
 use crate::limits::MOST_MESSAGES;
 use crate::member::Member;
 use crate::schedule::Schedule;
@@ -20,11 +21,12 @@ use tw_sim::Signed;
 pub(crate) fn take_turn<M: ProcessModel>(members: &mut [Member<'_, M>], start: usize, round: Round)
     requires some { 0 < length members.old }
     requires share { IsShare M.Event.parts M.Event.cmp M.behaviour round start members.old [] }
-    ensures { KeepsRule M.Event.parts M.Event.cmp M.behaviour round start members.old [] members.new [] }
+    ensures { HasTurned M.Event.parts M.Event.cmp M.behaviour round start members.old members.new }
 {
     let mut sent = take_sent(members, start, round);
     let went = go_on(members, start, round, &mut sent);
     keep_sent(members, start, round, sent, went.is_err());
+    tell_least(members, start, round);
 }
 
 /// What the share had to send on is on its way.
@@ -55,6 +57,16 @@ fn keep_sent<M: ProcessModel>(
     members[0].end_round(sent, wants_memory);
 }
 
+/// The first one tells a time that is not beyond those of all that waits in the share or is to be sent on.
+fn tell_least<M: ProcessModel>(members: &mut [Member<'_, M>], start: usize, round: Round)
+    requires some { 0 < length members.old }
+    ensures rule { KeepsRule M.Event.parts M.Event.cmp M.behaviour round start members.old [] members.new [] }
+    ensures told { TellsLeast M.Event.parts M.Event.cmp M.behaviour members.new }
+{
+    let least = least_of(members, round.stop);
+    members[0].put_least(least);
+}
+
 /// All begin the round, and then handle their events before its limit, the first one first.
 fn go_on<M: ProcessModel>(
     members: &mut [Member<'_, M>],
@@ -83,20 +95,20 @@ fn begin_all<M: ProcessModel>(
     ensures { GoesOn M.Event.parts M.Event.cmp M.behaviour round start members.old (on_way sent.old) members.new (on_way sent.new) }
 {
     for place in 0..members.len() {
-        let time = begin_at(members, start, round, place)?;
-        schedule.set(place, time);
+        begin_at(members, start, round, place)?;
+        schedule.set(place, members[place].next_time());
         send_at(members, start, round, place, sent)?;
     }
     Ok(())
 }
 
-/// The process at this place begins the round. It is answered at which time it goes on, in ticks.
+/// The process at this place begins the round.
 fn begin_at<M: ProcessModel>(
     members: &mut [Member<'_, M>],
     start: usize,
     round: Round,
     place: usize,
-) -> Result<u64, AllocError>
+) -> Result<(), AllocError>
     requires here { place < length members.old }
     requires share { (sent : _) × IsShare M.Event.parts M.Event.cmp M.behaviour round start members.old sent }
     ensures { (sent : _) → GoesOn M.Event.parts M.Event.cmp M.behaviour round start members.old sent members.new sent }
@@ -115,6 +127,7 @@ fn send_at<M: ProcessModel>(
     requires { place < length members.old }
     ensures { GoesOn M.Event.parts M.Event.cmp M.behaviour round start members.old (on_way sent.old) members.new (on_way sent.new) }
 {
+    sent.counts.add_sent(members[place].process().flight());
     members[place].send_out(&mut sent.near)
 }
 
@@ -153,25 +166,51 @@ fn handle_next<M: ProcessModel>(
     if place >= members.len() {
         return Ok(());
     }
-    let time = handle_at(members, start, round, place)?;
-    schedule.set(place, time);
+    advance_at(members, start, round, place, sent, schedule)?;
     send_at(members, start, round, place, sent)?;
     settle(members, start, round, sent, schedule)
 }
 
-/// The process at this place handles its first event, where that is before the limit. It is answered at which time it
-/// goes on, in ticks.
+/// The process at this place handles its first event, where that is before the limit; a full counter is noted.
+fn advance_at<M: ProcessModel>(
+    members: &mut [Member<'_, M>],
+    start: usize,
+    round: Round,
+    place: usize,
+    sent: &mut Sent<M::Event>,
+    schedule: &mut Schedule,
+) -> Result<(), AllocError>
+    requires here { place < length members.old }
+    requires share { IsShare M.Event.parts M.Event.cmp M.behaviour round start members.old (on_way sent.old) }
+    ensures { GoesOn M.Event.parts M.Event.cmp M.behaviour round start members.old (on_way sent.old) members.new (on_way sent.new) }
+{
+    match handle_at(members, start, round, place) {
+        Ok(has_handled) => {
+            sent.counts.add_handled(has_handled);
+            schedule.set(place, members[place].next_time());
+            Ok(())
+        }
+        Err(Refused::Memory) => Err(AllocError),
+        Err(Refused::CounterFull) => {
+            sent.refused = Some(Refused::CounterFull);
+            schedule.set(place, u64::MAX);
+            Ok(())
+        }
+    }
+}
+
+/// The process at this place handles its first event, where that is before the limit. It is answered whether it did.
 fn handle_at<M: ProcessModel>(
     members: &mut [Member<'_, M>],
     start: usize,
     round: Round,
     place: usize,
-) -> Result<u64, AllocError>
+) -> Result<bool, Refused>
     requires here { place < length members.old }
     requires share { (sent : _) × IsShare M.Event.parts M.Event.cmp M.behaviour round start members.old sent }
     ensures { (sent : _) → GoesOn M.Event.parts M.Event.cmp M.behaviour round start members.old sent members.new sent }
 {
-    members[place].advance(round.limit)
+    members[place].handle_next(round.limit)
 }
 
 /// What was sent within the share is received, and so is what that sends in its turn.

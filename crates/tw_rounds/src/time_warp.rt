@@ -8,9 +8,10 @@ ghost use Rattle.tw_sim.specs.Seq.{at};
 ghost use Rattle.tw_sim.specs.Simulation.{state};
 
 use crate::counts::Counts;
-use crate::dealing::{count_round, deal, least_of, send_all, tell_all};
+use crate::dealing::{count_round, deal, send_all, tell};
+use crate::least::least_told;
 use crate::limits::WORTH_THREADS;
-use crate::member::Member;
+use crate::member::{Member, least_among};
 use crate::opening::open_all;
 use crate::turning::{Round, turn_all};
 use crate::window::{limit_of, next_window, share_of, threads_for};
@@ -31,19 +32,20 @@ use tw_sim::Signed;
 pub struct TimeWarp<'a, M: ProcessModel> {
     model: &'a M,
     members: Vec<Member<'a, M>>,
-    // Empty between rounds, but after want of memory.
+    // Empty in a round, but after want of memory.
     flight: Vec<Signed<M::Event>>,
     bound: u64,
     stop: u64,
     window: u64,
     // Of the last round; before the first one, as if several threads were worth it.
     threads: usize,
+    share: usize,
     handled: u64,
     counts: Counts,
 }
 
 impl<'a, M: ProcessModel> Model for TimeWarp<'a, M> {
-    ghost use Rattle.std.specs.Prelude.{◌≤◌, map};
+    ghost use Rattle.std.specs.Prelude.{◌<◌, ◌≤◌, map};
     ghost use Rattle.tw_process.specs.Behaviour.{simulation_of};
     ghost use Rattle.tw_rounds.specs.Ruled.{AreRuled};
     ghost use Rattle.tw_rounds.specs.Warp.{Warp};
@@ -53,7 +55,8 @@ impl<'a, M: ProcessModel> Model for TimeWarp<'a, M> {
     ghost view = { λ a. record { model = a.model.now; stop = a.stop; bound = a.bound; processes = map (λ x. x.process) a.members.items } };
 
     ghost invariant = { λ a. (a.bound ≤ a.stop) × (a.stop ≤ (M.behaviour a.model.now).latest)
-        × AreRuled (simulation_of M.Event.parts M.Event.cmp (M.behaviour a.model.now)) a.model.now a.stop a.bound a.flight.items a.members.items };
+        × AreRuled (simulation_of M.Event.parts M.Event.cmp (M.behaviour a.model.now)) a.model.now a.stop a.bound a.flight.items a.members.items
+        × (0 < a.share) };
 }
 
 impl<'a, M: ProcessModel> TimeWarp<'a, M> {
@@ -70,6 +73,7 @@ impl<'a, M: ProcessModel> TimeWarp<'a, M> {
             stop: 0,
             window: model.lookahead(),
             threads: 1,
+            share: usize::MAX,
             handled: WORTH_THREADS,
             counts: Counts::default(),
         })
@@ -141,49 +145,45 @@ impl<'a, M: ProcessModel> TimeWarp<'a, M> {
         self.stop = self.stop.max(stop);
     }
 
-    /// What all have sent is dealt out, and the bound rises.
-    fn meet(&mut self) -> Result<(), Refused>
-        requires { self.old.bound < self.old.stop }
-        ensures same { IsSameRun self.old self.new }
-        ensures rises { self.old.bound ≤ self.new.bound }
-        ensures full { IsErrOf result CounterFull → IsStuck (simulation_of M.Event.parts M.Event.cmp (M.behaviour self.new.model)) self.new }
-    {
-        self.tell()?;
-        if self.send().is_err() {
-            return Err(Refused::Memory);
-        }
-        self.count();
-        self.raise_bound();
-        if self.deal().is_err() {
-            return Err(Refused::Memory);
-        }
-        Ok(())
-    }
-
-    /// Tells why it does not go on, where one of its processes is the cause.
-    fn tell(&mut self) -> Result<(), Refused>
-        requires { self.old.bound < self.old.stop }
+    /// What the shares of the last round have to send on is dealt out to those of the next one.
+    fn deal(&mut self, workers: u32) -> Result<(), AllocError>
         ensures same { IsSameRun self.old self.new }
         ensures bound { self.new.bound ≡ self.old.bound }
-        ensures full { IsErrOf result CounterFull → IsStuck (simulation_of M.Event.parts M.Event.cmp (M.behaviour self.new.model)) self.new }
     {
-        model_is_lawful(self.model);
-        tell_all(&mut self.members, self.bound)
+        self.send()?;
+        self.share_out(workers);
+        self.deal_out()
     }
 
-    /// What its processes have sent is on its way.
+    /// What the shares of the last round have to send on is on its way.
     fn send(&mut self) -> Result<(), AllocError>
         ensures same { IsSameRun self.old self.new }
         ensures bound { self.new.bound ≡ self.old.bound }
     {
-        send_all(&mut self.members, &mut self.flight)
+        send_all(&mut self.members, self.share, &mut self.flight)
+    }
+
+    /// How many threads take part in the next round, and how many processes are a share.
+    fn share_out(&mut self, workers: u32)
+        ensures { self.new ≡ self.old }
+    {
+        self.threads = threads_for(workers, self.handled);
+        self.share = share_of(self.members.len(), self.threads);
+    }
+
+    /// Each message that is on its way goes to the share of its receiver.
+    fn deal_out(&mut self) -> Result<(), AllocError>
+        ensures same { IsSameRun self.old self.new }
+        ensures bound { self.new.bound ≡ self.old.bound }
+    {
+        deal(&mut self.members, self.share, &mut self.flight)
     }
 
     /// What was done in a round is counted, and the window fits it.
     fn count(&mut self)
         ensures { self.new ≡ self.old }
     {
-        let round = count_round(&self.members);
+        let round = count_round(&self.members, self.share);
         self.handled = round.handled;
         self.counts.add(round);
         if self.threads > 1 {
@@ -192,21 +192,17 @@ impl<'a, M: ProcessModel> TimeWarp<'a, M> {
         }
     }
 
-    /// The bound rises to the least time of all that waits or is on its way, and at most to the stop.
-    fn raise_bound(&mut self)
-        ensures same { IsSameRun self.old self.new }
-        ensures rises { self.old.bound ≤ self.new.bound }
-    {
-        let least = least_of(&self.members, &self.flight, self.stop);
-        self.bound = self.bound.max(least);
-    }
-
-    /// Each message that is on its way is handed to its receiver.
-    fn deal(&mut self) -> Result<(), AllocError>
+    /// Tells why it does not go on, where one of its processes is the cause.
+    fn tell(&mut self) -> Result<(), Refused>
         ensures same { IsSameRun self.old self.new }
         ensures bound { self.new.bound ≡ self.old.bound }
+        ensures full { IsErrOf result CounterFull → IsStuck (simulation_of M.Event.parts M.Event.cmp (M.behaviour self.new.model)) self.new }
     {
-        deal(&mut self.members, &mut self.flight)
+        model_is_lawful(self.model);
+        if self.bound >= self.stop {
+            return Ok(());
+        }
+        tell(&mut self.members, self.share, self.bound)
     }
 }
 
@@ -249,33 +245,47 @@ where
         unreachable!()
     }
 
-    /// Each share of the processes takes its turn, then what is for others is dealt out, and the bound rises.
+    /// What is for others is dealt out, each share of the processes takes its turn, and the bound rises.
     fn round<R: Threads + Sync>(&mut self, rt: &R, workers: u32) -> Result<(), Refused>
-        requires { self.old.bound < self.old.stop }
         ensures same { IsSameRun self.old self.new }
         ensures rises { self.old.bound ≤ self.new.bound }
         ensures right { IsRight (simulation_of M.Event.parts M.Event.cmp (M.behaviour self.new.model)) self.new }
         ensures full { IsErrOf result CounterFull → IsStuck (simulation_of M.Event.parts M.Event.cmp (M.behaviour self.new.model)) self.new }
     {
-        self.turn(rt, workers);
-        let met = self.meet();
+        let went = self.go_on(rt, workers);
         self.keeps_rule();
-        met
+        went
     }
 
-    /// Each share of the processes takes its turn.
-    fn turn<R: Threads + Sync>(&mut self, rt: &R, workers: u32)
+    /// A round, whatever the rule tells of it.
+    fn go_on<R: Threads + Sync>(&mut self, rt: &R, workers: u32) -> Result<(), Refused>
         ensures same { IsSameRun self.old self.new }
-        ensures bound { self.new.bound ≡ self.old.bound }
+        ensures rises { self.old.bound ≤ self.new.bound }
+        ensures full { IsErrOf result CounterFull → IsStuck (simulation_of M.Event.parts M.Event.cmp (M.behaviour self.new.model)) self.new }
     {
-        self.threads = threads_for(workers, self.handled);
+        if self.deal(workers).is_err() {
+            return Err(Refused::Memory);
+        }
+        self.turn(rt);
+        self.count();
+        self.tell()
+    }
+
+    /// Each share of the processes takes its turn, and the bound rises to the least time of all that waits or is on its way,
+    /// and at most to the stop.
+    fn turn<R: Threads + Sync>(&mut self, rt: &R)
+        ensures same { IsSameRun self.old self.new }
+        ensures rises { self.old.bound ≤ self.new.bound }
+    {
         let round = Round {
             alloc: *self.flight.allocator(),
             bound: self.bound,
             limit: limit_of(self.threads, self.bound, self.window, self.stop),
             stop: self.stop,
         };
-        let size = share_of(self.members.len(), self.threads);
-        turn_all(rt, &mut self.members, size, round);
+        turn_all(rt, &mut self.members, self.share, round);
+        let flying = least_among(&self.flight, self.stop);
+        let least = least_told(&self.members, self.share, flying);
+        self.bound = self.bound.max(least);
     }
 }

@@ -9,8 +9,8 @@ pub begin_at-requires-clause-share : goal.begin_at-requires-clause-share
 begin_at-requires-clause-share g c =
     (on_way c.loop-place.sent, still_share g.M.Event.Timed.parts g.M.Event.Ord.cmp g.M.ProcessModel.behaviour c.args.round c.args.start c.args.members.now c.loop-place.members (on_way c.args.sent.now) (on_way c.loop-place.sent) c.requires.share c.loop-place.invariant.rule)
 
-pub returns-in_err-time : goal.returns-in_err-time
-returns-in_err-time g c =
+pub returns-in_err-begin_at : goal.returns-in_err-begin_at
+returns-in_err-begin_at g c =
     let f = on_way c.loop-place.sent in
     goes_both g.M.Event.Timed.parts g.M.Event.Ord.cmp g.M.ProcessModel.behaviour c.args.round c.args.start c.args.members.now c.loop-place.members c.begin_at.new.members (on_way c.args.sent.now) f f c.loop-place.invariant (c.begin_at.ensures f)
 

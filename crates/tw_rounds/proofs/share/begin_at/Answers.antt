@@ -3,14 +3,6 @@ use Rattle.std.proofs.lemmas.Option.{slice_get_read}
 use Rattle.tw_rounds.proofs.Shares.{begun, may_begin}
 use Rattle.tw_rounds.proofs.share.begin_at.Goals as goal
 
-pub begin_round-requires : goal.begin_round-requires
-begin_round-requires g c =
-    let xs = c.args.members.now in
-    let read = c.index-members-place.result in
-    let x = get_or xs c.args.place read in
-    let at = slice_get_read xs (length xs) c.args.place read refl c.requires.here c.index-members-place.is ∙ ap (λ z. Some z) c.index-members-place.is in
-    (c.args.round.stop, may_begin g.M.Event.Timed.parts g.M.Event.Ord.cmp g.M.ProcessModel.behaviour c.args.round c.args.start xs c.args.place x at c.requires.share.0 c.requires.share.1)
-
 pub returns : goal.returns
 returns g c = λ sent.
     let xs = c.args.members.now in

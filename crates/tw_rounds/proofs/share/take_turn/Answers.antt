@@ -13,5 +13,9 @@ keep_sent-requires-clause-empty g c = λ x at.
     outbox_at c.take_sent-sent.new.members c.go_on-went.new.members 0 before.0 x c.go_on-went.ensures.outboxes before.1 at ∙ c.take_sent-sent.ensures.empty before.0 before.1
 
 pub returns : goal.returns
-returns g c = λ model front back others from ruled.
-    c.keep_sent.ensures model front back others from (c.go_on-went.ensures.rule model front back others from (c.take_sent-sent.ensures.rule model front back others from ruled))
+returns g c = record {
+  rule = λ model front back others from ruled.
+      c.tell_least.ensures.rule model front back others from
+      (c.keep_sent.ensures model front back others from (c.go_on-went.ensures.rule model front back others from (c.take_sent-sent.ensures.rule model front back others from ruled)));
+  told = c.tell_least.ensures.told;
+}

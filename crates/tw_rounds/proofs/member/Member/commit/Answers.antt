@@ -1,4 +1,4 @@
-use Rattle.std.proofs.Common.{subst}
+use Rattle.std.proofs.Common.{[], subst}
 use Rattle.tw_process.specs.Behaviour.{simulation_of}
 use Rattle.tw_rounds.proofs.Members.{committed, mailed}
 use Rattle.tw_rounds.specs.Members.{KeepsTo}
@@ -9,5 +9,5 @@ pub returns-clause-kept : goal.returns-clause-kept
 returns-clause-kept g c =
     let a = c.self.inside in
     let sim = λ (model : g.row.M.Denot). simulation_of g.M.Event.Timed.parts g.M.Event.Ord.cmp (g.M.ProcessModel.behaviour model) in
-    subst (λ x. KeepsTo (sim x.process.model) 0 x (mailed c.commit.new.self a.mail.items (on_way a.sent))) c.self.view_is
-    (committed (sim a.process.model) (mailed a.process a.mail.items (on_way a.sent)) c.commit.new.self c.in_ok-commit.ensures.events c.in_ok-commit.ensures.ok)
+    subst (λ x. KeepsTo (sim x.process.model) 0 x (mailed c.commit.new.self [] (on_way a.sent) a.least)) c.self.view_is
+    (committed (sim a.process.model) (mailed a.process [] (on_way a.sent) a.least) c.commit.new.self c.in_ok-commit.ensures.events c.in_ok-commit.ensures.ok)

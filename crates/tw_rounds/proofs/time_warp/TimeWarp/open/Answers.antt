@@ -14,6 +14,7 @@ invariant_of-result g c =
       omega arith,
       subst (λ fs. AreRuled m model 0 0 fs xs) (sym c.new.ensures.items)
           (are_opened m c.model_is_lawful.ensures.lawful c.model_is_lawful.ensures.numbered model xs c.in_ok-open_all.ensures.count c.in_ok-open_all.ensures.each),
+      omega arith,
     )
 
 pub returns : goal.returns

@@ -11,4 +11,4 @@ invariant_of-self g c =
     let m = sim a.model.now in
     let items = rewritten a.members.len c.send_all.new.members _ (c.send_all.auto.members ∙ c.deref_mut.ensures.len) in
     let was = subst (AreRuled m a.model.now a.stop a.bound a.flight.items) (sym c.deref_mut.ensures.value) c.self.invariant.2 in
-    (c.self.invariant.0, c.self.invariant.1, subst (AreRuled m a.model.now a.stop a.bound c.send_all.new.flight.items) (sym items) (c.send_all.ensures a.model.now a.stop a.bound was))
+    (c.self.invariant.0, c.self.invariant.1, subst (AreRuled m a.model.now a.stop a.bound c.send_all.new.flight.items) (sym items) (c.send_all.ensures a.model.now a.stop a.bound was), c.self.invariant.3)

@@ -2,7 +2,7 @@ use Rattle.std.proofs.Common.{sym, subst, ◌∙◌}
 use Rattle.tw_process.specs.Behaviour.{simulation_of}
 use Rattle.tw_rounds.proofs.Lists.{rewritten}
 use Rattle.tw_rounds.specs.Ruled.{AreRuled}
-use Rattle.tw_rounds.proofs.time_warp.TimeWarp.deal.Goals as goal
+use Rattle.tw_rounds.proofs.time_warp.TimeWarp.deal_out.Goals as goal
 
 pub invariant_of-self : goal.invariant_of-self
 invariant_of-self g c =
@@ -11,4 +11,4 @@ invariant_of-self g c =
     let m = sim a.model.now in
     let items = rewritten a.members.len c.deal.new.members _ (c.deal.auto.members ∙ c.deref_mut.ensures.len) in
     let was = subst (AreRuled m a.model.now a.stop a.bound a.flight.items) (sym c.deref_mut.ensures.value) c.self.invariant.2 in
-    (c.self.invariant.0, c.self.invariant.1, subst (AreRuled m a.model.now a.stop a.bound c.deal.new.flight.items) (sym items) (c.deal.ensures a.model.now a.stop a.bound was))
+    (c.self.invariant.0, c.self.invariant.1, subst (AreRuled m a.model.now a.stop a.bound c.deal.new.flight.items) (sym items) (c.deal.ensures a.model.now a.stop a.bound was), c.self.invariant.3)

@@ -6,7 +6,7 @@ use Rattle.tw_rounds.proofs.Lists.{within}
 use Rattle.tw_rounds.specs.Members.{place_of}
 use Rattle.tw_rule.specs.Place.{NoneLooseBefore}
 use Rattle.tw_sim.specs.Simulation.{IsLawful}
-use Rattle.tw_rounds.proofs.dealing.least_of.Goals as goal
+use Rattle.tw_rounds.proofs.least.least_of.Goals as goal
 
 pub loop-member-preserved : goal.loop-member-preserved
 loop-member-preserved g c =
