@@ -13,8 +13,6 @@ mod dealt;
 #[cfg(test)]
 mod exchange;
 #[cfg(test)]
-mod lazy;
-#[cfg(test)]
 mod machine;
 pub mod messages;
 #[cfg(test)]
@@ -22,10 +20,8 @@ mod moving;
 #[cfg(test)]
 mod owners;
 #[cfg(test)]
-mod rooms;
-#[cfg(test)]
-mod rows;
-#[cfg(test)]
 mod shards;
+#[cfg(test)]
+mod steps;
 #[cfg(test)]
 mod table;

@@ -3,13 +3,15 @@
 
 ghost use Rattle.std.specs.Prelude.{◌≡◌, ◌<◌, IfSome};
 
-use crate::calls::{handle, receive, undo};
-use crate::messages::{antimessage, early_offers_of_2, offers_of_1, offers_of_2, offers_of_origin};
+use crate::calls::{Amounts, Answer, Call, Line, holds_on};
+use crate::messages::{
+    EARLY_NOT_TO_1, EARLY_TO_1, ONE_NOT_TO_2, ONE_NOT_TO_ORIGIN, ONE_TO_2, ONE_TO_ORIGIN,
+    ORIGIN_TO_1, TWO_TO_1,
+};
 use std::alloc::Global;
 use tw_event::PathNo;
 use tw_instance::Case;
 use tw_rows::cases::case;
-use tw_rows::made::holds_of_both;
 use tw_rows::texts::DISAGREE;
 use tw_shard::{OrMemory, Refusal, Shard};
 use tw_sim::Cancel;
@@ -39,6 +41,17 @@ fn retried<'a>(alloc: Global, case: &'a Case, worker: u32, cancel: Cancel) -> Op
     }
 }
 
+/// What happens to two shards.
+#[derive(Clone, Copy)]
+enum Move<'a> {
+    /// A line holds of the first.
+    Here(Line<'a>),
+    /// A line holds of the second.
+    There(Line<'a>),
+    /// The first hands a router over to the second, and this is the answer. Where it is refused nothing has changed.
+    HandsOver(u32, Result<(), OrMemory<Refusal>>),
+}
+
 /// Hands a router over; `None` where that may not be asked for.
 fn hand_over<'a>(
     from: &mut Shard<'a>,
@@ -55,125 +68,173 @@ fn hand_over<'a>(
     Some(from.hand_over(router, to))
 }
 
-/// How many routers a shard has, what is pending and what is kept for them, what is held for them, and what they have
-/// sent; and its bound.
-fn amounts_in(shard: &Shard<'_>) -> ([usize; 5], u64) {
-    let (pending, kept) = (shard.pending().len(), shard.kept().len());
-    let (held, sent) = (shard.held_len(), shard.outgoing().len());
-    let amounts = [shard.router_count(), pending, kept, held, sent];
-    (amounts, shard.bound())
+/// Whether this is the answer where a router is to go over, asked for once more where memory was refused. Nothing has
+/// changed where it does not go.
+fn goes_over<'a>(
+    from: &mut Shard<'a>,
+    router: u32,
+    to: &mut Shard<'a>,
+    due: Result<(), OrMemory<Refusal>>,
+) -> bool
+    requires { to.old.terms.case ≡ from.old.terms.case }
+    ensures { to.new.terms.case ≡ from.new.terms.case }
+{
+    let (here, there) = (Amounts::of(from), Amounts::of(to));
+    let answer = hand_over(from, router, to);
+    let is_kept = Amounts::of(from) == here && Amounts::of(to) == there;
+    if answer == Some(Err(OrMemory::Memory)) {
+        return is_kept && hand_over(from, router, to) == Some(due);
+    }
+    answer == Some(due) && (due.is_ok() || is_kept)
 }
 
-/// Whether a router goes over, once more where memory was refused, after which nothing has changed.
-fn goes_over<'a>(from: &mut Shard<'a>, router: u32, to: &mut Shard<'a>) -> bool
+/// Whether what happens to two shards is so.
+fn is_so<'a>(alloc: Global, from: &mut Shard<'a>, to: &mut Shard<'a>, next: Move<'_>) -> bool
     requires { to.old.terms.case ≡ from.old.terms.case }
+    ensures { to.new.terms.case ≡ from.new.terms.case }
 {
-    let (here, there) = (amounts_in(from), amounts_in(to));
-    match hand_over(from, router, to) {
-        Some(Err(OrMemory::Memory)) => {
-            amounts_in(from) == here
-                && amounts_in(to) == there
-                && hand_over(from, router, to) == Some(Ok(()))
-        }
-        answer => answer == Some(Ok(())),
+    match next {
+        Move::Here(line) => holds_on(alloc, from, line),
+        Move::There(line) => holds_on(alloc, to, line),
+        Move::HandsOver(router, due) => goes_over(from, router, to, due),
     }
 }
 
-/// Whether the routers are dealt out by the list, and the origin's start is pending where the origin is.
-fn are_dealt_out(from: &mut Shard<'_>, to: &mut Shard<'_>) -> bool {
-    from.router_count() == 2
-        && to.router_count() == 1
-        && [from.router_at(0), from.router_at(1), to.router_at(0)] == [0, 1, 2]
-        && from.pending().len() == 1
-        && to.pending().is_empty()
-}
-
-/// Whether a router that neither has is refused.
-fn is_refused<'a>(from: &mut Shard<'a>, to: &mut Shard<'a>) -> bool
+/// Whether all that happens to two shards is so, one after the other.
+fn goes_by<'a>(alloc: Global, from: &mut Shard<'a>, to: &mut Shard<'a>, moves: &[Move<'_>]) -> bool
     requires { to.old.terms.case ≡ from.old.terms.case }
 {
-    let (here, there) = (amounts_in(from), amounts_in(to));
-    hand_over(from, 3, to) == Some(Err(OrMemory::Fault(Refusal::NotMine)))
-        && amounts_in(from) == here
-        && amounts_in(to) == there
+    for next in moves {
+        if !is_so(alloc, from, to, *next) {
+            return false;
+        }
+    }
+    true
 }
 
-/// The origin offers its path to router 1, which handles that; for router 1 a later offer waits, and an
-/// antimessage whose message has not come.
-fn goes_ahead(shard: &mut Shard<'_>) -> bool
-    ensures { shard.new.terms.case ≡ shard.old.terms.case }
-{
-    let ([first, _], [_, later]) = (offers_of_origin(), offers_of_2());
-    let [_, kept] = early_offers_of_2();
-    shard.raise_bound(1);
-    receive(shard, first).is_ok()
-        && handle(shard, 1) == Ok(())
-        && receive(shard, later).is_ok()
-        && receive(shard, antimessage(kept)).is_ok()
-}
+/// The routers are dealt out by the list, and the origin's start is pending where the origin is.
+const DEALT_OUT: [Move<'static>; 4] = [
+    Move::Here(Line::HasRouters(&[0, 1])),
+    Move::There(Line::HasRouters(&[2])),
+    Move::Here(Line::PendingCount(1)),
+    Move::There(Line::NonePending),
+];
 
-/// Router 1 has the path that it had chosen, undoes and handles that event again, and its antimessage meets its message.
-fn goes_on(shard: &mut Shard<'_>) -> bool {
-    let ([to_0, to_2], [_, message]) = (offers_of_1(), early_offers_of_2());
-    shard.owns(1)
-        && shard.router(1).rib() == PathNo(3)
-        && undo(shard, 1) == Ok(())
-        && handle(shard, 1) == Ok(())
-        && shard.outgoing() == &[antimessage(to_0), antimessage(to_2), to_0, to_2][..]
-        && receive(shard, message).is_ok()
-        && shard.kept().is_empty()
-        && shard.pending().len() == 1
-}
+/// A router that neither has is refused.
+const REFUSED: [Move<'static>; 1] = [Move::HandsOver(3, Err(OrMemory::Fault(Refusal::NotMine)))];
 
-/// Whether router 1 goes over with its history and all that waits for it.
-fn comes_with_what_waits<'a>(from: &mut Shard<'a>, to: &mut Shard<'a>) -> bool
-    requires { to.old.terms.case ≡ from.old.terms.case }
-{
-    goes_ahead(from)
-        && goes_over(from, 1, to)
-        && amounts_in(from) == ([1, 1, 0, 0, 2], 1)
-        && amounts_in(to) == ([2, 1, 1, 0, 0], 1)
-        && goes_on(to)
-}
+/// The origin offers its path to router 1, which handles that; for router 1 a later offer waits, and an antimessage
+/// whose message has not come. It goes over with its history and all that waits for it, has the path that it had
+/// chosen, undoes and handles that event again, and its antimessage meets its message.
+const WITH_WHAT_WAITS: [Move<'static>; 15] = [
+    Move::Here(Line::RaisesBound(1)),
+    Move::Here(Line::Asks(Call::Receive(ORIGIN_TO_1), Answer::Done)),
+    Move::Here(Line::Asks(Call::Handle(1), Answer::Done)),
+    Move::Here(Line::Asks(Call::Receive(TWO_TO_1), Answer::Done)),
+    Move::Here(Line::Asks(Call::Receive(EARLY_NOT_TO_1), Answer::Done)),
+    Move::HandsOver(1, Ok(())),
+    Move::Here(Line::Has(Amounts {
+        routers: 1,
+        pending: 1,
+        kept: 0,
+        held: 0,
+        sent: 2,
+        bound: 1,
+    })),
+    Move::There(Line::Has(Amounts {
+        routers: 2,
+        pending: 1,
+        kept: 1,
+        held: 0,
+        sent: 0,
+        bound: 1,
+    })),
+    Move::There(Line::HasChosen(1, PathNo(3))),
+    Move::There(Line::Asks(Call::Undo(1), Answer::Done)),
+    Move::There(Line::Asks(Call::Handle(1), Answer::Done)),
+    Move::There(Line::HasSent(&[ONE_NOT_TO_ORIGIN, ONE_NOT_TO_2, ONE_TO_ORIGIN, ONE_TO_2])),
+    Move::There(Line::Asks(Call::Receive(EARLY_TO_1), Answer::Done)),
+    Move::There(Line::NoneKept),
+    Move::There(Line::PendingCount(1)),
+];
 
-/// Whether the origin goes over with what its undone start had sent, which it sends again there.
-fn comes_with_what_is_held<'a>(from: &mut Shard<'a>, to: &mut Shard<'a>) -> bool
-    requires { to.old.terms.case ≡ from.old.terms.case }
-{
-    handle(from, 0) == Ok(())
-        && undo(from, 0) == Ok(())
-        && goes_over(from, 0, to)
-        && from.held_time(0).is_none()
-        && to.held_time(0) == Some(1)
-        && handle(to, 0) == Ok(())
-        && amounts_in(to) == ([2, 0, 0, 0, 0], 0)
-}
+/// The origin goes over with what its undone start had sent, which it sends again there.
+const WITH_WHAT_IS_HELD: [Move<'static>; 7] = [
+    Move::Here(Line::Asks(Call::Handle(0), Answer::Done)),
+    Move::Here(Line::Asks(Call::Undo(0), Answer::Done)),
+    Move::HandsOver(0, Ok(())),
+    Move::Here(Line::HasHeld(0, None)),
+    Move::There(Line::HasHeld(0, Some(1))),
+    Move::There(Line::Asks(Call::Handle(0), Answer::Done)),
+    Move::There(Line::Has(Amounts {
+        routers: 2,
+        pending: 0,
+        kept: 0,
+        held: 0,
+        sent: 0,
+        bound: 0,
+    })),
+];
 
-/// Whether this holds of the two shards as DISAGREE begins.
-fn holds<F: for<'a> FnOnce(&mut Shard<'a>, &mut Shard<'a>) -> bool>(
-    alloc: Global,
+/// What happens to two shards.
+struct Row {
+    name: &'static str,
     cancel: Cancel,
-    of_both: F,
-) -> bool
-    requires { (x y : _) → y.now.terms.case ≡ x.now.terms.case → F.pre of_both x y }
-{
+    moves: &'static [Move<'static>],
+}
+
+/// What happens to two shards.
+const ROWS: [Row; 4] = [
+    Row {
+        name: "dealt out by a list",
+        cancel: Cancel::Aggressive,
+        moves: &DEALT_OUT,
+    },
+    Row {
+        name: "a router of no shard",
+        cancel: Cancel::Aggressive,
+        moves: &REFUSED,
+    },
+    Row {
+        name: "what waits",
+        cancel: Cancel::Aggressive,
+        moves: &WITH_WHAT_WAITS,
+    },
+    Row {
+        name: "what is held",
+        cancel: Cancel::Lazy,
+        moves: &WITH_WHAT_IS_HELD,
+    },
+];
+
+/// Whether all this happens to the two shards of a case.
+fn happens_to(alloc: Global, case: &Case, row: &Row) -> bool {
+    let Some(mut from) = retried(alloc, case, 0, row.cancel) else {
+        return false;
+    };
+    let Some(mut to) = retried(alloc, case, 1, row.cancel) else {
+        drop(from);
+        return false;
+    };
+    let is_so = goes_by(alloc, &mut from, &mut to, row.moves);
+    drop(to);
+    drop(from);
+    is_so
+}
+
+/// Whether all this happens as DISAGREE begins.
+fn happens(alloc: Global, row: &Row) -> bool {
     let Ok(case) = case(alloc, DISAGREE) else {
         return false;
     };
-    let from = retried(alloc, &case, 0, cancel);
-    holds_of_both(from, retried(alloc, &case, 1, cancel), of_both)
+    let is_so = happens_to(alloc, &case, row);
+    drop(case);
+    is_so
 }
 
 #[test]
 fn a_router_goes_from_one_shard_to_another(rt: HostRuntime) {
-    let (alloc, at_once, lazy) = (rt.alloc(), Cancel::Aggressive, Cancel::Lazy);
-    let rows = [
-        ("dealt out by a list", holds(alloc, at_once, are_dealt_out)),
-        ("a router of no shard", holds(alloc, at_once, is_refused)),
-        ("what waits", holds(alloc, at_once, comes_with_what_waits)),
-        ("what is held", holds(alloc, lazy, comes_with_what_is_held)),
-    ];
-    for (name, is_so) in rows {
-        assert!(rt; is_so, "{name}");
+    for row in &ROWS {
+        assert!(rt; happens(rt.alloc(), row), "{}", row.name);
     }
 }

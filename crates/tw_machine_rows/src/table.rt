@@ -14,7 +14,7 @@ ghost use Rattle.tw_table.specs.Seats.{IsSameSeat, IsSeatOf, exchange_of, owners
 ghost use Rattle.tw_table.specs.Shares.{share};
 ghost use Rattle.tw_machine_rows.specs.Sitting.{AreBeginning, IsReadyToTake};
 
-use crate::messages::offers_of_origin;
+use crate::messages::{ORIGIN_TO_1, ORIGIN_TO_2};
 use std::alloc::{AllocError, Global};
 use std::sync::Wait;
 use tw_event::Event;
@@ -147,7 +147,10 @@ fn meet<R: Wait>(
 {
     let mut held = table.take(rt, seat);
     let out = shard.take_out();
-    let visit = visit(&mut held, out, shard.report_time())?;
+    let Some(visit) = visit(&mut held, out, shard.report_time()) else {
+        drop(held);
+        return None;
+    };
     shard.raise_bound(visit.bound);
     hand.mail = visit.mail;
     hand.next = 0;
@@ -230,12 +233,12 @@ fn meet_first<R: Wait>(
     requires { IsReadyToTake table.now seat (share shard.old hand.old) }
     ensures { IfSome result (λ s. IsSeatOf table.now s) }
 {
-    let [for_1, for_2] = offers_of_origin();
-    if seat.worker() != 0 || !handle(shard, 0) || !has_sent(shard, &[for_1, for_2]) {
+    if seat.worker() != 0 || !handle(shard, 0) || !has_sent(shard, &[ORIGIN_TO_1, ORIGIN_TO_2]) {
+        drop(seat);
         return None;
     }
     let seat = meet_dealt(rt, table, seat, shard, hand)?;
-    is_told(&seat, hand, &[for_2], 0).then_some(seat)
+    is_told(&seat, hand, &[ORIGIN_TO_2], 0).then_some(seat)
 }
 
 /// The second worker has sent nothing and meets: it is told of bound 1, and has what router 1 is offered.
@@ -249,12 +252,12 @@ fn meet_second<R: Wait>(
     requires { IsReadyToTake table.now seat (share shard.old hand.old) }
     ensures { IfSome result (λ s. IsSeatOf table.now s) }
 {
-    let [for_1, _] = offers_of_origin();
     if seat.worker() != 1 || !has_sent(shard, &[]) {
+        drop(seat);
         return None;
     }
     let seat = meet(rt, table, seat, shard, hand)?;
-    is_told(&seat, hand, &[for_1], 1).then_some(seat)
+    is_told(&seat, hand, &[ORIGIN_TO_1], 1).then_some(seat)
 }
 
 /// The exchange of a table that does not close with the first seat alone, but with both. The list is empty.
@@ -270,12 +273,27 @@ fn close<R: Wait>(
     requires empty { seats.items ≡ [] }
 {
     let mut seats = seats;
-    seats.push(first).ok()?;
-    let Err(Missing { table, mut seats }) = Table::close(rt, table, seats) else {
+    if seats.push(first).ok().is_none() {
+        drop(table);
+        drop(second);
+        drop(seats);
         return None;
-    };
-    seats.push(second).ok()?;
-    Table::close(rt, table, seats).ok()
+    }
+    match Table::close(rt, table, seats) {
+        Ok(exchange) => {
+            drop(exchange);
+            drop(second);
+            None
+        }
+        Err(Missing { table, mut seats }) => {
+            if seats.push(second).ok().is_none() {
+                drop(table);
+                drop(seats);
+                return None;
+            }
+            Table::close(rt, table, seats).ok()
+        }
+    }
 }
 
 /// A list with room for two seats, made once more where memory was refused.
@@ -307,9 +325,22 @@ fn hand_each_other_mail<R: Wait>(
     requires { AreBeginning case.now shards.old hands.old }
 {
     let (table, first, second) = sit_down_at_last(rt, alloc, case, shards, hands)?;
-    let first = meet_first(rt, &table, first, &mut shards[0], &mut hands[0])?;
-    let second = meet_second(rt, &table, second, &mut shards[1], &mut hands[1])?;
-    let seats = room_for_two(alloc).ok()?;
+    let Some(first) = meet_first(rt, &table, first, &mut shards[0], &mut hands[0]) else {
+        drop(second);
+        drop(table);
+        return None;
+    };
+    let Some(second) = meet_second(rt, &table, second, &mut shards[1], &mut hands[1]) else {
+        drop(first);
+        drop(table);
+        return None;
+    };
+    let Ok(seats) = room_for_two(alloc) else {
+        drop(first);
+        drop(second);
+        drop(table);
+        return None;
+    };
     close(rt, table, first, second, seats)
 }
 
@@ -319,10 +350,12 @@ fn leave_no_mail<R: Wait>(rt: &R, alloc: Global, case: &Case, shards: &mut [Shar
     requires each { (k : ℕ) → k < 2 → IsOpeningShard case.now k 2 true Aggressive (slice_index_or shards.old k no_shard) }
 {
     let mut hands = [Hand::new(alloc), Hand::new(alloc)];
-    match hand_each_other_mail(rt, alloc, case, shards, &mut hands) {
-        Some(exchange) => is_left(&exchange),
-        None => false,
-    }
+    let Some(exchange) = hand_each_other_mail(rt, alloc, case, shards, &mut hands) else {
+        return false;
+    };
+    let is_left = is_left(&exchange);
+    drop(exchange);
+    is_left
 }
 
 /// Whether two workers do so as a case begins.
@@ -330,11 +363,22 @@ fn leave_no_mail_of<R: Wait>(rt: &R, alloc: Global, case: &Case) -> bool {
     let Ok(mut shards) = shards_of(alloc, case) else {
         return false;
     };
-    leave_no_mail(rt, alloc, case, &mut shards)
+    let leave_none = leave_no_mail(rt, alloc, case, &mut shards);
+    drop(shards);
+    leave_none
+}
+
+/// Whether two workers do so as DISAGREE begins.
+fn leave_no_mail_of_disagree<R: Wait>(rt: &R, alloc: Global) -> bool {
+    let Ok(case) = case(alloc, DISAGREE) else {
+        return false;
+    };
+    let leave_none = leave_no_mail_of(rt, alloc, &case);
+    drop(case);
+    leave_none
 }
 
 #[test]
 fn two_workers_hand_each_other_mail(rt: HostRuntime) {
-    let alloc = rt.alloc();
-    assert!(rt; case(alloc, DISAGREE).is_ok_and(|case| leave_no_mail_of(&rt, alloc, &case)));
+    assert!(rt; leave_no_mail_of_disagree(&rt, rt.alloc()));
 }

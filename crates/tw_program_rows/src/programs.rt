@@ -86,7 +86,12 @@ const ACCEPTED: &str = "accepted nodes 3 links 3 paths 4 scenario 0\n";
 /// Whether each shorter page has a prefix of what the program writes on DISAGREE, and tells that
 /// it failed.
 fn fails_with_a_prefix(alloc: Global, asked: Asked, whole: &[u8], most: usize) -> bool {
-    (0..whole.len()).all(|room| fails(alloc, asked, DISAGREE, room, most, &whole[..room]))
+    for room in 0..whole.len() {
+        if !fails(alloc, asked, DISAGREE, room, most, &whole[..room]) {
+            return false;
+        }
+    }
+    true
 }
 
 /// What each program writes on DISAGREE.
@@ -98,10 +103,10 @@ const WRITTEN: [(Asked, &str); 3] = [
 
 #[test]
 fn a_sink_that_fails_has_a_prefix(rt: HostRuntime) {
-    for (asked, text) in WRITTEN {
-        for most in [AMPLE, 1] {
+    for (asked, text) in &WRITTEN {
+        for most in &[AMPLE, 1] {
             assert!(rt;
-                fails_with_a_prefix(rt.alloc(), asked, text.as_bytes(), most),
+                fails_with_a_prefix(rt.alloc(), *asked, text.as_bytes(), *most),
                 "{asked:?}"
             );
         }
@@ -122,9 +127,9 @@ fn writes_bytes(alloc: Global, asked: Asked, written: &[u8]) -> bool {
 
 #[test]
 fn a_sink_may_take_a_byte_at_a_time(rt: HostRuntime) {
-    for (asked, text) in WRITTEN {
+    for (asked, text) in &WRITTEN {
         assert!(rt;
-            writes_bytes(rt.alloc(), asked, text.as_bytes()),
+            writes_bytes(rt.alloc(), *asked, text.as_bytes()),
             "{asked:?}"
         );
     }
@@ -138,9 +143,9 @@ fn writes_nothing(alloc: Global, asked: Asked, left: usize) -> bool {
 
 #[test]
 fn a_source_that_fails_leaves_nothing_written(rt: HostRuntime) {
-    for (asked, _) in WRITTEN {
-        for left in [0, 1, 20] {
-            assert!(rt; writes_nothing(rt.alloc(), asked, left));
+    for (asked, _) in &WRITTEN {
+        for left in &[0, 1, 20] {
+            assert!(rt; writes_nothing(rt.alloc(), *asked, *left));
         }
     }
 }
@@ -173,20 +178,24 @@ fn line_ends_without_end_are_refused(rt: HostRuntime) {
 
 /// Whether a cause is shown as this text, once more where memory was refused.
 fn is_shown(alloc: Global, cause: Cause, text: &str) -> bool {
-    format!(in alloc; "{cause}")
-        .or_else(|_| format!(in alloc; "{cause}"))
-        .is_ok_and(|shown| shown.as_str() == text)
+    let shown = match format!(in alloc; "{cause}") {
+        Err(_) => format!(in alloc; "{cause}"),
+        shown => shown,
+    };
+    matches!(shown, Ok(shown) if shown.as_str() == text)
 }
+
+/// Each cause to stop, and its two words.
+const CAUSES: [(Cause, &str); 4] = [
+    (Cause::Memory, "stopped memory"),
+    (Cause::CounterFull, "stopped counter"),
+    (Cause::NoThread, "stopped thread"),
+    (Cause::Device, "stopped device"),
+];
 
 #[test]
 fn each_cause_to_stop_is_shown_in_two_words(rt: HostRuntime) {
-    let texts = [
-        (Cause::Memory, "stopped memory"),
-        (Cause::CounterFull, "stopped counter"),
-        (Cause::NoThread, "stopped thread"),
-        (Cause::Device, "stopped device"),
-    ];
-    for (cause, text) in texts {
-        assert!(rt; is_shown(rt.alloc(), cause, text));
+    for (cause, text) in &CAUSES {
+        assert!(rt; is_shown(rt.alloc(), *cause, text));
     }
 }

@@ -8,7 +8,6 @@ use tw_event::{Body, Event};
 use tw_instance::Case;
 use tw_parallel::{EndCause, Ended, OpenGate, Options, Sim, run_until};
 use tw_rows::cases::{case, many_exchanges};
-use tw_rows::made::{again, holds_of_made};
 
 /// How many events the run handles: the start, and 300 exchanges.
 const EVENTS: usize = 301;
@@ -29,8 +28,12 @@ fn event_at(place: usize) -> Event {
 
 /// Whether these are the first events of the run, each of them below the bound.
 fn are_first(committed: &[Event], bound: u64) -> bool {
-    let is_so = |(place, event): (usize, &Event)| *event == event_at(place) && event.time < bound;
-    committed.len() <= EVENTS && committed.iter().enumerate().all(is_so)
+    for (place, event) in committed.iter().enumerate() {
+        if *event != event_at(place) || event.time >= bound {
+            return false;
+        }
+    }
+    committed.len() <= EVENTS
 }
 
 /// How many events are committed, where these are the first of the run and below the bound.
@@ -57,30 +60,57 @@ fn is_over(sim: &Sim<'_>) -> bool {
 /// Whether a run that ended early has some of the run's events, and comes to stop 20 from there.
 fn goes_on_from_there<X: Threads + Wait + Sync>(rt: &X, ended: Ended<'_>) -> bool {
     let is_refused = is_refused_on_its_way(&ended);
-    let run = run_until(rt, ended.sim, 20, Options { batch: 64 }, &OpenGate);
-    holds_of_made(run.ok(), |sim| is_over(sim)) && is_refused
+    match run_until(rt, ended.sim, 20, Options { batch: 64 }, &OpenGate) {
+        Ok(sim) => {
+            let is_over = is_over(&sim);
+            drop(sim);
+            is_over && is_refused
+        }
+        Err(ended) => {
+            drop(ended);
+            false
+        }
+    }
 }
 
 /// Whether a run comes to stop 20, if need be from where it ended early, where its events are some of the run's.
 fn comes_to_20<X: Threads + Wait + Sync>(rt: &X, sim: Sim<'_>) -> bool {
     match run_until(rt, sim, 20, Options { batch: 64 }, &OpenGate) {
-        Ok(sim) => is_over(&sim),
+        Ok(sim) => {
+            let is_over = is_over(&sim);
+            drop(sim);
+            is_over
+        }
         Err(ended) => goes_on_from_there(rt, ended),
     }
 }
 
 /// Whether the run of a case by two workers comes to stop 20.
 fn comes_to_its_end<X: Threads + Wait + Sync>(rt: &X, alloc: Global, case: &Case) -> bool {
-    sim(alloc, case).is_ok_and(|sim| comes_to_20(rt, sim))
+    match sim(alloc, case) {
+        Ok(sim) => comes_to_20(rt, sim),
+        Err(_) => false,
+    }
 }
 
-/// Whether that of the case of a text does.
-fn holds<X: Threads + Wait + Sync>(rt: &X, alloc: Global, text: &str) -> bool {
-    case(alloc, text).is_ok_and(|case| comes_to_its_end(rt, alloc, &case))
+/// Whether that of the case of a router with many events does; its text is made once more where memory was refused.
+fn holds<X: Threads + Wait + Sync>(rt: &X, alloc: Global) -> bool {
+    let text = match many_exchanges(alloc) {
+        Err(_) => many_exchanges(alloc),
+        text => text,
+    };
+    let Ok(text) = text else {
+        return false;
+    };
+    let Ok(case) = case(alloc, &text) else {
+        return false;
+    };
+    let holds = comes_to_its_end(rt, alloc, &case);
+    drop(case);
+    holds
 }
 
 #[test]
 fn a_router_past_its_room_goes_on_where_memory_was_refused(rt: HostRuntime) {
-    let alloc = rt.alloc();
-    assert!(rt; again(|| many_exchanges(alloc)).is_ok_and(|text| holds(&rt, alloc, &text)));
+    assert!(rt; holds(&rt, rt.alloc()));
 }

@@ -17,7 +17,6 @@ use tw_model::{Counters, Outcome, RouterEnd};
 use tw_report::write_report;
 use tw_rows::cases::case;
 use tw_rows::events::START;
-use tw_rows::made::again;
 use tw_rows::texts::{ALONE, DISAGREE};
 use tw_seq::{LoggedRun, OneThread, Running};
 use tw_shape::Verdict;
@@ -55,26 +54,42 @@ pub(crate) fn logged_run<'a>(alloc: Global, case: &'a Case) -> Result<LoggedRun<
 
 /// What a run leaves, asked for once more where memory was refused.
 pub(crate) fn left_by(run: &LoggedRun<'_>) -> Result<Outcome, AllocError> {
-    again(|| run.outcome())
+    match run.outcome() {
+        Err(_) => run.outcome(),
+        left => left,
+    }
 }
 
-/// Whether a run to stop 20 leaves seven events, and gives the same ones away, where memory is not refused.
+/// Whether a run gives away these events, where memory is not refused.
 fn gives_away(run: LoggedRun<'_>, left: &Outcome) -> bool {
-    let gives = match run.into_outcome() {
-        Ok(moved) => moved.events.as_slice() == left.events.as_slice(),
+    match run.into_outcome() {
+        Ok(moved) => {
+            let is_same = moved.events.as_slice() == left.events.as_slice();
+            drop(moved);
+            is_same
+        }
         Err(_) => true,
-    };
-    gives && is_quiet_at_20(left, 7)
+    }
 }
 
-/// Whether a run tells what it leaves at stop 20, and gives the same away.
+/// Whether a run tells what it leaves at stop 20, which are seven events, and gives the same away.
 fn leaves_its_events(run: LoggedRun<'_>) -> bool {
-    left_by(&run).is_ok_and(|left| gives_away(run, &left))
+    let Ok(left) = left_by(&run) else {
+        drop(run);
+        return false;
+    };
+    let leaves = gives_away(run, &left) && is_quiet_at_20(&left, 7);
+    drop(left);
+    leaves
 }
 
-/// Whether a run has handled six events, and just one is pending, of time 7.
+/// Whether a run has handled six events, and just one is pending, of time 7; asked once more where memory was refused.
 fn has_one_left(run: &LoggedRun<'_>) -> bool {
-    run.handled().len() == 6 && again(|| run.pending()).is_ok_and(|pending| is_the_last(&pending))
+    let pending = match run.pending() {
+        Err(_) => run.pending(),
+        pending => pending,
+    };
+    run.handled().len() == 6 && matches!(pending, Ok(pending) if is_the_last(&pending))
 }
 
 /// Whether a run that has handled nothing goes on to tick 7, and no earlier stop takes anything back.
@@ -95,34 +110,44 @@ fn handles_seven(run: &mut LoggedRun<'_>) -> bool
     run_to(run, 20) && run.handled().len() == 7 && run.router(1).rib() == PathNo(3)
 }
 
-/// Whether the run of a case goes on to later stops, and no earlier one takes anything back.
+/// Whether the run of a case of three routers goes on to later stops, and no earlier one takes anything back.
 fn goes_on(alloc: Global, case: &Case) -> bool {
     let has_three_routers = case.instance().nodes() == 3;
-    match logged_run(alloc, case) {
-        Ok(mut run) => {
-            let handles_all = has_three_routers && handles_six(&mut run) && handles_seven(&mut run);
-            leaves_its_events(run) && handles_all
-        }
-        Err(_) => false,
-    }
+    let Ok(mut run) = logged_run(alloc, case) else {
+        return false;
+    };
+    let handles_all = has_three_routers && handles_six(&mut run) && handles_seven(&mut run);
+    leaves_its_events(run) && handles_all
 }
 
-#[test]
-fn a_run_goes_on_to_a_later_stop(rt: HostRuntime) {
-    let alloc = rt.alloc();
-    assert!(rt; case(alloc, DISAGREE).is_ok_and(|case| goes_on(alloc, &case)));
+/// Whether just one event is pending in a run without a log, of time 7; asked once more where memory was refused.
+fn has_the_last(run: &OneThread<'_>) -> bool {
+    let pending = match run.pending() {
+        Err(_) => run.pending(),
+        pending => pending,
+    };
+    matches!(pending, Ok(pending) if is_the_last(&pending))
 }
 
 /// Whether a run without a log goes on to tick 7, and just one event is pending then, of time 7.
 fn comes_to_the_last(run: &mut OneThread<'_>) -> bool
     ensures { run.new.case ≡ run.old.case }
 {
-    run_to(run, 7) && again(|| run.pending()).is_ok_and(|pending| is_the_last(&pending))
+    run_to(run, 7) && has_the_last(run)
 }
 
-/// Whether a run without a log is quiet at stop 20, as one with a log.
+/// Whether a run without a log is quiet at stop 20, as one with a log; asked once more where memory was refused.
 fn is_left_quiet(run: &OneThread<'_>) -> bool {
-    again(|| run.outcome_without_events()).is_ok_and(|outcome| is_quiet_at_20(&outcome, 0))
+    let left = match run.outcome_without_events() {
+        Err(_) => run.outcome_without_events(),
+        left => left,
+    };
+    let Ok(left) = left else {
+        return false;
+    };
+    let is_quiet = is_quiet_at_20(&left, 0);
+    drop(left);
+    is_quiet
 }
 
 /// Whether a run without a log goes on to stop 20, router 1 being on its path by the origin.
@@ -142,19 +167,15 @@ fn one_thread<'a>(alloc: Global, case: &'a Case) -> Result<OneThread<'a>, AllocE
     }
 }
 
-/// Whether the run of a case without a log goes on to stop 20, and ends as one with a log.
+/// Whether the run of a case of three routers without a log goes on to stop 20, and ends as one with a log.
 fn goes_on_without_a_log(alloc: Global, case: &Case) -> bool {
     let has_three_routers = case.instance().nodes() == 3;
-    match one_thread(alloc, case) {
-        Ok(mut run) => { has_three_routers && comes_to_the_last(&mut run) && comes_to_20(&mut run) }
-        Err(_) => false,
-    }
-}
-
-#[test]
-fn a_run_without_a_log_ends_as_one_with_a_log(rt: HostRuntime) {
-    let alloc = rt.alloc();
-    assert!(rt; case(alloc, DISAGREE).is_ok_and(|case| goes_on_without_a_log(alloc, &case)));
+    let Ok(mut run) = one_thread(alloc, case) else {
+        return false;
+    };
+    let goes_on = has_three_routers && comes_to_the_last(&mut run) && comes_to_20(&mut run);
+    drop(run);
+    goes_on
 }
 
 /// What the run of the origin alone to stop 10 leaves.
@@ -194,7 +215,10 @@ fn alone_at_last(alloc: Global) -> Result<Outcome, AllocError>
 fn page_at_last(alloc: Global, room: usize) -> Result<ShortPage, AllocError>
     ensures { IfOk result (λ page. page.failed ≡ false) }
 {
-    again(|| ShortPage::new(alloc, room, AMPLE))
+    match ShortPage::new(alloc, room, AMPLE) {
+        Err(_) => ShortPage::new(alloc, room, AMPLE),
+        page => page,
+    }
 }
 
 /// Whether writing the report on a page that takes `room` bytes ends so, with just this on the page.
@@ -222,12 +246,48 @@ fn is_whole_or_a_prefix(alloc: Global, case: &Case) -> bool {
         return false;
     };
     let net = case.instance();
-    reports(alloc, net, &outcome, AMPLE, Ok(()), ALONE_LOG.as_bytes())
-        && reports(alloc, net, &outcome, 13, Err(Failed), b"spp-report 1\n")
+    let is_so = reports(alloc, net, &outcome, AMPLE, Ok(()), ALONE_LOG.as_bytes())
+        && reports(alloc, net, &outcome, 13, Err(Failed), b"spp-report 1\n");
+    drop(outcome);
+    is_so
+}
+
+/// What is asked of a case.
+#[derive(Clone, Copy)]
+enum Asked {
+    /// Its run goes on.
+    GoesOn,
+    /// Its run without a log goes on.
+    GoesOnWithoutALog,
+    /// Its report is whole or a prefix.
+    Reports,
+}
+
+/// Whether it holds of the case of a text.
+fn holds(alloc: Global, text: &str, asked: Asked) -> bool {
+    let Ok(case) = case(alloc, text) else {
+        return false;
+    };
+    let holds = match asked {
+        Asked::GoesOn => goes_on(alloc, &case),
+        Asked::GoesOnWithoutALog => goes_on_without_a_log(alloc, &case),
+        Asked::Reports => is_whole_or_a_prefix(alloc, &case),
+    };
+    drop(case);
+    holds
+}
+
+#[test]
+fn a_run_goes_on_to_a_later_stop(rt: HostRuntime) {
+    assert!(rt; holds(rt.alloc(), DISAGREE, Asked::GoesOn));
+}
+
+#[test]
+fn a_run_without_a_log_ends_as_one_with_a_log(rt: HostRuntime) {
+    assert!(rt; holds(rt.alloc(), DISAGREE, Asked::GoesOnWithoutALog));
 }
 
 #[test]
 fn a_report_is_whole_or_a_prefix(rt: HostRuntime) {
-    let alloc = rt.alloc();
-    assert!(rt; case(alloc, ALONE).is_ok_and(|case| is_whole_or_a_prefix(alloc, &case)));
+    assert!(rt; holds(rt.alloc(), ALONE, Asked::Reports));
 }

@@ -12,7 +12,6 @@ use tw_event::Event;
 use tw_instance::Case;
 use tw_parallel::{EndCause, Ended, Gate, OpenGate, Options, Sim, run_until};
 use tw_rows::cases::case;
-use tw_rows::made::holds_of_made;
 use tw_rows::texts::DISAGREE;
 use tw_sim::Cancel;
 use tw_table::Seat;
@@ -36,10 +35,20 @@ pub(crate) fn run_on<'a, X: Threads + Wait + Sync>(
     }
 }
 
+/// What a run has committed, asked for once more where memory was refused; `None` where that may not be asked for.
+fn committed_by(sim: &Sim<'_>) -> Option<Vec<Event>> {
+    if !sim.retains_events() {
+        return None;
+    }
+    committed(sim).ok()
+}
+
 /// Whether the first events of the run, so many, are committed.
 fn has_committed(sim: &Sim<'_>, count: usize) -> bool {
-    sim.retains_events()
-        && matches!(committed(sim), Ok(found) if events().get(..count) == Some(found.as_slice()))
+    let Some(found) = committed_by(sim) else {
+        return false;
+    };
+    events().get(..count) == Some(found.as_slice())
 }
 
 /// Whether these are some events of the run, in their order, each of them below the bound.
@@ -60,7 +69,10 @@ fn are_below(committed: &[Event], bound: u64) -> bool {
 
 /// Whether what is committed is of the run, and below the bound.
 fn has_committed_some(sim: &Sim<'_>, bound: u64) -> bool {
-    sim.retains_events() && matches!(committed(sim), Ok(found) if are_below(&found, bound))
+    let Some(found) = committed_by(sim) else {
+        return false;
+    };
+    are_below(&found, bound)
 }
 
 /// Whether a run is settled with its first events, so many, committed.
@@ -78,7 +90,17 @@ fn is_kept_at_20(ended: &Ended<'_>) -> bool {
 
 /// Whether a run to a stop below its own ends, and is kept as it was at stop 20.
 fn refuses_19<X: Threads + Wait + Sync>(rt: &X, sim: Sim<'_>) -> bool {
-    holds_of_made(run_on(rt, sim, 19).err(), |ended| is_kept_at_20(ended))
+    match run_on(rt, sim, 19) {
+        Ok(sim) => {
+            drop(sim);
+            false
+        }
+        Err(ended) => {
+            let is_kept = is_kept_at_20(&ended);
+            drop(ended);
+            is_kept
+        }
+    }
 }
 
 /// The run at a later stop, where it is settled there with its first events, so many.
@@ -88,24 +110,26 @@ fn settled_at<'a, X: Threads + Wait + Sync>(
     stop: u64,
     count: usize,
 ) -> Option<Sim<'a>> {
-    run_on(rt, sim, stop)
-        .ok()
-        .filter(|sim| is_settled_with(sim, count))
+    let Ok(sim) = run_on(rt, sim, stop) else {
+        return None;
+    };
+    if is_settled_with(&sim, count) {
+        return Some(sim);
+    }
+    drop(sim);
+    None
 }
 
 /// Whether the run of a case goes on to later stops, and then to no earlier one.
-fn goes_on<X: Threads + Wait + Sync>(rt: &X, alloc: Global, case: &Case) -> bool {
-    let mut run = sim(alloc, case).ok();
-    for (stop, count) in [(3, 4), (7, 6), (20, 7)] {
-        run = run.and_then(|sim| settled_at(rt, sim, stop, count));
+fn goes_on<X: Threads + Wait + Sync>(rt: &X, sim: Sim<'_>) -> bool {
+    let mut run = sim;
+    for (stop, count) in &[(3, 4), (7, 6), (20, 7)] {
+        match settled_at(rt, run, *stop, *count) {
+            Some(sim) => run = sim,
+            None => return false,
+        }
     }
-    run.is_some_and(|sim| refuses_19(rt, sim))
-}
-
-#[test]
-fn a_run_goes_on_to_later_stops_and_to_no_earlier_one(rt: HostRuntime) {
-    let alloc = rt.alloc();
-    assert!(rt; case(alloc, DISAGREE).is_ok_and(|case| goes_on(&rt, alloc, &case)));
+    refuses_19(rt, run)
 }
 
 /// Whether a run was refused memory or a thread, and what it has committed is of the run, and below its bound.
@@ -121,7 +145,12 @@ fn is_settled_at_20(sim: &Sim<'_>) -> bool {
 
 /// Whether a run goes on to stop 20, and has all its events there.
 pub(crate) fn goes_on_to_20<X: Threads + Wait + Sync>(rt: &X, sim: Sim<'_>) -> bool {
-    holds_of_made(run_on(rt, sim, 20).ok(), |sim| is_settled_at_20(sim))
+    let Ok(sim) = run_on(rt, sim, 20) else {
+        return false;
+    };
+    let is_settled = is_settled_at_20(&sim);
+    drop(sim);
+    is_settled
 }
 
 /// Whether a run to stop 20, and once more from where it ended, comes there.
@@ -133,17 +162,6 @@ fn comes_to_20<X: Threads + Wait + Sync>(rt: &X, sim: Sim<'_>) -> bool {
             goes_on_to_20(rt, ended.sim) && is_refused
         }
     }
-}
-
-/// Whether the run of a case comes to stop 20, also from where it ended early.
-fn goes_on_from_there<X: Threads + Wait + Sync>(rt: &X, alloc: Global, case: &Case) -> bool {
-    sim(alloc, case).is_ok_and(|sim| comes_to_20(rt, sim))
-}
-
-#[test]
-fn a_run_that_ended_early_goes_on_from_there(rt: HostRuntime) {
-    let alloc = rt.alloc();
-    assert!(rt; case(alloc, DISAGREE).is_ok_and(|case| goes_on_from_there(&rt, alloc, &case)));
 }
 
 /// How often a worker looks for another before it goes on without it.
@@ -263,9 +281,17 @@ fn comes_through<G: Gate + Sync, X: Threads + Wait + Sync>(
     sim: Sim<'_>,
     gate: &G,
 ) -> Option<bool> {
-    match &run_until(rt, sim, 20, Options { batch: 64 }, gate) {
-        Ok(sim) => Some(sim.bound() == 20),
-        Err(ended) => told_by(ended.cause),
+    match run_until(rt, sim, 20, Options { batch: 64 }, gate) {
+        Ok(sim) => {
+            let is_there = sim.bound() == 20;
+            drop(sim);
+            Some(is_there)
+        }
+        Err(ended) => {
+            let cause = ended.cause;
+            drop(ended);
+            told_by(cause)
+        }
     }
 }
 
@@ -287,13 +313,6 @@ fn overlap<X: Threads + Wait + Sync>(rt: &X, alloc: Global, case: &Case) -> Opti
     Some(has_passed && gate.0.ended_at(20) && gate.0.first_of_1.load(Ordering::SeqCst) == 1)
 }
 
-#[test]
-fn workers_overlap(rt: HostRuntime) {
-    let alloc = rt.alloc();
-    let told = |case: &Case| overlap(&rt, alloc, case).or_else(|| overlap(&rt, alloc, case));
-    assert!(rt; case(alloc, DISAGREE).is_ok_and(|case| told(&case) == Some(true)));
-}
-
 /// Whether one worker overtakes another that handles an event; `None` where memory or a thread was refused.
 fn overtake<X: Threads + Wait + Sync>(rt: &X, alloc: Global, case: &Case) -> Option<bool> {
     let gate = Overtaking::default();
@@ -301,9 +320,63 @@ fn overtake<X: Threads + Wait + Sync>(rt: &X, alloc: Global, case: &Case) -> Opt
     Some(has_passed && gate.0.ended_at(20))
 }
 
+/// What is asked of the run of a case by two workers.
+#[derive(Clone, Copy)]
+enum Asked {
+    /// It goes on to later stops, and to no earlier one.
+    GoesOn,
+    /// It comes to stop 20, also from where it ended early.
+    ComesTo20,
+    /// Its workers overlap.
+    Overlaps,
+    /// One worker overtakes another that handles an event.
+    Overtakes,
+}
+
+/// Whether it holds of the run of a case; `None` where memory or a thread was refused to one at a gate.
+fn told<X: Threads + Wait + Sync>(
+    rt: &X,
+    alloc: Global,
+    case: &Case,
+    asked: Asked,
+) -> Option<bool> {
+    match asked {
+        Asked::GoesOn => Some(goes_on(rt, sim(alloc, case).ok()?)),
+        Asked::ComesTo20 => Some(comes_to_20(rt, sim(alloc, case).ok()?)),
+        Asked::Overlaps => overlap(rt, alloc, case),
+        Asked::Overtakes => overtake(rt, alloc, case),
+    }
+}
+
+/// Whether it holds of DISAGREE, whose run is tried once more where memory or a thread was refused.
+fn holds<X: Threads + Wait + Sync>(rt: &X, alloc: Global, asked: Asked) -> bool {
+    let Ok(case) = case(alloc, DISAGREE) else {
+        return false;
+    };
+    let told = match told(rt, alloc, &case, asked) {
+        None => told(rt, alloc, &case, asked),
+        told => told,
+    };
+    drop(case);
+    told == Some(true)
+}
+
+#[test]
+fn a_run_goes_on_to_later_stops_and_to_no_earlier_one(rt: HostRuntime) {
+    assert!(rt; holds(&rt, rt.alloc(), Asked::GoesOn));
+}
+
+#[test]
+fn a_run_that_ended_early_goes_on_from_there(rt: HostRuntime) {
+    assert!(rt; holds(&rt, rt.alloc(), Asked::ComesTo20));
+}
+
+#[test]
+fn workers_overlap(rt: HostRuntime) {
+    assert!(rt; holds(&rt, rt.alloc(), Asked::Overlaps));
+}
+
 #[test]
 fn handling_happens_off_the_table(rt: HostRuntime) {
-    let alloc = rt.alloc();
-    let told = |case: &Case| overtake(&rt, alloc, case).or_else(|| overtake(&rt, alloc, case));
-    assert!(rt; case(alloc, DISAGREE).is_ok_and(|case| told(&case) == Some(true)));
+    assert!(rt; holds(&rt, rt.alloc(), Asked::Overtakes));
 }

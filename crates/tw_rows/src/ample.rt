@@ -7,7 +7,6 @@ ghost use Rattle.std.specs.Prelude.{◌≡◌, ◌<◌};
 mod traced;
 
 use crate::cases::case;
-use crate::made::holds_of_made;
 use crate::texts::{DISAGREE, RANK_EXCHANGE};
 use smallvec::SmallVec;
 use std::alloc::Global;
@@ -60,40 +59,78 @@ fn goes_and_comes_back(alloc: Global, instance: &Instance, router: &mut Router<'
 fn is_handled(alloc: Global, instance: &Instance) -> bool
     requires { 1 < instance.now.nodes }
 {
-    Router::new(alloc, instance, 1).is_ok_and(|mut router| {
-        goes_and_comes_back(alloc, instance, &mut router)
-    })
+    let Ok(mut router) = Router::new(alloc, instance, 1) else {
+        return false;
+    };
+    let is_so = goes_and_comes_back(alloc, instance, &mut router);
+    drop(router);
+    is_so
 }
 
 /// Whether router 1 handles the exchange on a trail.
 fn is_handled_on_a_trail(alloc: Global, instance: &Instance) -> bool
     requires { 1 < instance.now.nodes }
 {
-    Router::new(alloc, instance, 1).is_ok_and(|router| {
-        Trail::over(alloc, router).handle(instance, &SWAP).is_ok()
-    })
+    let Ok(router) = Router::new(alloc, instance, 1) else {
+        return false;
+    };
+    let mut trail = Trail::over(alloc, router);
+    let is_so = trail.handle(instance, &SWAP).is_ok();
+    drop(trail);
+    is_so
 }
 
 /// Whether router 1 of a case handles the exchange.
-fn holds(alloc: Global, instance: &Instance) -> bool {
+fn is_handled_in(alloc: Global, instance: &Instance) -> bool {
     instance.nodes() == 3 && is_handled(alloc, instance) && is_handled_on_a_trail(alloc, instance)
-}
-
-#[test]
-fn an_exchange_is_handled_and_undone(rt: HostRuntime) {
-    let alloc = rt.alloc();
-    assert!(rt; case(alloc, RANK_EXCHANGE).is_ok_and(|case| holds(alloc, case.instance())));
 }
 
 /// Whether the run of a case tells what is pending, and what it leaves.
 fn tells_what_it_leaves(alloc: Global, case: &Case) -> bool {
-    holds_of_made(LoggedRun::new(alloc, case).ok(), |run| {
-        run.pending().is_ok() && run.outcome().is_ok()
-    })
+    let Ok(run) = LoggedRun::new(alloc, case) else {
+        return false;
+    };
+    let tells = run.pending().err().is_none() && run.outcome().err().is_none();
+    drop(run);
+    tells
+}
+
+/// What is asked of a case.
+#[derive(Clone, Copy)]
+enum Asked {
+    /// An exchange is handled and undone.
+    IsHandled,
+    /// Its run tells what is pending, and what it leaves.
+    TellsWhatItLeaves,
+    /// Its run is taken apart, and goes on.
+    GoesOn,
+}
+
+/// Whether it holds of the case of a text.
+fn holds(alloc: Global, text: &str, asked: Asked) -> bool {
+    let Ok(case) = case(alloc, text) else {
+        return false;
+    };
+    let holds = match asked {
+        Asked::IsHandled => is_handled_in(alloc, case.instance()),
+        Asked::TellsWhatItLeaves => tells_what_it_leaves(alloc, &case),
+        Asked::GoesOn => traced::goes_on(alloc, &case),
+    };
+    drop(case);
+    holds
+}
+
+#[test]
+fn an_exchange_is_handled_and_undone(rt: HostRuntime) {
+    assert!(rt; holds(rt.alloc(), RANK_EXCHANGE, Asked::IsHandled));
 }
 
 #[test]
 fn a_run_tells_what_it_leaves(rt: HostRuntime) {
-    let alloc = rt.alloc();
-    assert!(rt; case(alloc, DISAGREE).is_ok_and(|case| tells_what_it_leaves(alloc, &case)));
+    assert!(rt; holds(rt.alloc(), DISAGREE, Asked::TellsWhatItLeaves));
+}
+
+#[test]
+fn a_run_is_taken_apart_and_goes_on(rt: HostRuntime) {
+    assert!(rt; holds(rt.alloc(), DISAGREE, Asked::GoesOn));
 }

@@ -2,7 +2,7 @@
 
 ghost use Rattle.std.specs.Prelude.{◌≡◌, ◌≤◌};
 
-use crate::pending::{Line, NEAR_AND_FAR, Offer, goes_by, holds_on, nothing};
+use crate::pending::{Line, NEAR_AND_FAR, goes_by, holds_on, nothing};
 use std::alloc::{AllocError, Global};
 use tw_queue::Pending;
 
@@ -25,24 +25,78 @@ const TWO_AND_ONE: [Line<'static>; 3] = [
     Line::Insert((1, 1, 0)),
 ];
 
+/// One event of router 1, at time 3.
+const ONE: [Line<'static>; 1] = [Line::Insert((3, 1, 2))];
+
 /// What a router has goes from one list to another.
-#[derive(Clone, Copy)]
-struct HandOver<'a> {
+struct HandOver {
+    name: &'static str,
     /// Whether both are kept by time.
     by_time: bool,
     /// What was done with the first list.
-    before: &'a [Line<'a>],
+    before: &'static [Line<'static>],
     /// What was done with the other.
-    own: &'a [Line<'a>],
+    own: &'static [Line<'static>],
     router: u32,
     /// What then holds of the first list.
-    left: Line<'a>,
+    left: Line<'static>,
     /// What then holds of the other.
-    given: Line<'a>,
+    given: Line<'static>,
 }
 
+/// What a router has goes from one list to another: first from events of which router 0 has none, router 1 one twice and
+/// router 2 one; then events by time, one of the tick at hand and a far one among them; and many, which stand in buckets,
+/// and come out there in order.
+const ROWS: [HandOver; 5] = [
+    HandOver {
+        name: "none of router 0",
+        by_time: false,
+        before: &TWO_AND_ONE,
+        own: &ONE,
+        router: 0,
+        left: Line::Lists(&[(1, 1, 0), (1, 1, 0), (5, 2, 1)]),
+        given: Line::Lists(&[(3, 1, 2)]),
+    },
+    HandOver {
+        name: "two of router 1",
+        by_time: false,
+        before: &TWO_AND_ONE,
+        own: &ONE,
+        router: 1,
+        left: Line::Lists(&[(5, 2, 1)]),
+        given: Line::Lists(&[(1, 1, 0), (1, 1, 0), (3, 1, 2)]),
+    },
+    HandOver {
+        name: "one of router 2",
+        by_time: false,
+        before: &TWO_AND_ONE,
+        own: &ONE,
+        router: 2,
+        left: Line::Lists(&[(1, 1, 0), (1, 1, 0)]),
+        given: Line::Lists(&[(3, 1, 2), (5, 2, 1)]),
+    },
+    HandOver {
+        name: "by time",
+        by_time: true,
+        before: &NEAR_AND_FAR,
+        own: &[],
+        router: 1,
+        left: Line::Lists(&[(5, 2, 1)]),
+        given: Line::Lists(&[(3, 1, 2), (5, 1, 0), (100, 1, 3)]),
+    },
+    HandOver {
+        name: "many",
+        by_time: false,
+        before: &[Line::InsertMany],
+        own: &[],
+        router: 1,
+        left: Line::Empty,
+        given: Line::TakeMany,
+    },
+];
+
 /// Whether what is pending for the router goes to the other list, and leaves the others.
-fn is_given(pending: &mut Pending, to: &mut Pending, row: HandOver<'_>) -> bool
+fn is_given(pending: &mut Pending, to: &mut Pending, row: &HandOver) -> bool
     requires first { pending.old.routers ≡ 3 }
     requires second { to.old.routers ≡ 3 }
 {
@@ -54,54 +108,23 @@ fn is_given(pending: &mut Pending, to: &mut Pending, row: HandOver<'_>) -> bool
 }
 
 /// The same of two lists with no event yet.
-fn goes_to_another(alloc: Global, row: HandOver<'_>) -> bool {
-    match (nothing(alloc, row.by_time), nothing(alloc, row.by_time)) {
-        (Ok(mut pending), Ok(mut to)) => is_given(&mut pending, &mut to, row),
-        _ => false,
-    }
+fn goes_to_another(alloc: Global, row: &HandOver) -> bool {
+    let Ok(mut pending) = nothing(alloc, row.by_time) else {
+        return false;
+    };
+    let Ok(mut to) = nothing(alloc, row.by_time) else {
+        drop(pending);
+        return false;
+    };
+    let is_given = is_given(&mut pending, &mut to, row);
+    drop(to);
+    drop(pending);
+    is_given
 }
-
-/// Where a router's events go to a list with one of router 1, what is left and what is given: of events of which router 0
-/// has none, router 1 one twice, and router 2 one.
-const GIVEN: [(u32, &[Offer], &[Offer]); 3] = [
-    (0, &[(1, 1, 0), (1, 1, 0), (5, 2, 1)], &[(3, 1, 2)]),
-    (1, &[(5, 2, 1)], &[(1, 1, 0), (1, 1, 0), (3, 1, 2)]),
-    (2, &[(1, 1, 0), (1, 1, 0)], &[(3, 1, 2), (5, 2, 1)]),
-];
-
-/// Events by time of router 1, one of the tick at hand and a far one among them.
-const BY_TIME: HandOver<'static> = HandOver {
-    by_time: true,
-    before: &NEAR_AND_FAR,
-    own: &[],
-    router: 1,
-    left: Line::Lists(&[(5, 2, 1)]),
-    given: Line::Lists(&[(3, 1, 2), (5, 1, 0), (100, 1, 3)]),
-};
-
-/// Many events of router 1, which stand in buckets, and come out there in order.
-const OF_MANY: HandOver<'static> = HandOver {
-    by_time: false,
-    before: &[Line::InsertMany],
-    own: &[],
-    router: 1,
-    left: Line::Empty,
-    given: Line::TakeMany,
-};
 
 #[test]
 fn what_is_pending_for_a_router_goes_to_another_list(rt: HostRuntime) {
-    for (router, left, given) in &GIVEN {
-        let row = HandOver {
-            by_time: false,
-            before: &TWO_AND_ONE,
-            own: &[Line::Insert((3, 1, 2))],
-            router: *router,
-            left: Line::Lists(left),
-            given: Line::Lists(given),
-        };
-        assert!(rt; goes_to_another(rt.alloc(), row), "router {router}");
+    for row in &ROWS {
+        assert!(rt; goes_to_another(rt.alloc(), row), "{}", row.name);
     }
-    assert!(rt; goes_to_another(rt.alloc(), BY_TIME));
-    assert!(rt; goes_to_another(rt.alloc(), OF_MANY));
 }

@@ -86,11 +86,14 @@ fn back(
     (router.rib(), router.counters().sent)
 }
 
-/// The times and numbers of the events.
+/// Whether these are the times and numbers of the events.
 fn times(sends: &[Event], expected: &[(u64, u64)]) -> bool {
+    for (event, (time, seq)) in sends.iter().zip(expected) {
+        if event.time != *time || event.seq != *seq {
+            return false;
+        }
+    }
     sends.len() == expected.len()
-        && sends.iter().zip(expected).all(|(event, pair)| event.time == pair.0
-            && event.seq == pair.1)
 }
 
 /// What happens to router 1 on its trail, and what it shows then. A pair is the router's path and the messages that it
@@ -188,10 +191,14 @@ fn goes_by(
 fn goes_from_the_start(alloc: Global, instance: &Instance, lines: &[Line<'_>]) -> bool
     requires { 1 < instance.now.nodes }
 {
-    router(alloc, instance, NO_COUNTS).is_ok_and(|router| {
-        let trail = &mut Trail::over(alloc, router);
-        goes_by(trail, instance, &mut SmallVec::new(alloc), lines)
-    })
+    let Ok(router) = router(alloc, instance, NO_COUNTS) else {
+        return false;
+    };
+    let (mut trail, mut sends) = (Trail::over(alloc, router), SmallVec::new(alloc));
+    let holds = goes_by(&mut trail, instance, &mut sends, lines);
+    drop(sends);
+    drop(trail);
+    holds
 }
 
 /// A trail goes back to each earlier state.
@@ -259,38 +266,6 @@ const ALLOWED: [Line<'static>; 9] = [
     Line::Refuses(5, 4, Body::Forbid(3)),
 ];
 
-/// Whether this holds of the instance of a case of three routers.
-fn holds<F: FnOnce(Global, &Instance) -> bool>(alloc: Global, text: &str, of_it: F) -> bool
-    requires { (x : _) → 1 < x.now.nodes → F.pre of_it alloc x }
-{
-    let Ok(case) = case(alloc, text) else {
-        return false;
-    };
-    let instance = case.instance();
-    instance.nodes() == 3 && of_it(alloc, instance)
-}
-
-/// Whether this holds of router 1 of DISAGREE with these counts.
-fn holds_with<F: FnOnce(Global, &Instance, &mut Router<'_>) -> bool>(
-    alloc: Global,
-    counters: Counters,
-    of_it: F,
-) -> bool
-    requires { (x : _) (r : _) → x.now ≡ r.now.net → F.pre of_it alloc x r }
-{
-    let Ok(case) = case(alloc, DISAGREE) else {
-        return false;
-    };
-    let instance = case.instance();
-    if instance.nodes() != 3 {
-        return false;
-    }
-    match router(alloc, instance, counters) {
-        Ok(mut router) => of_it(alloc, instance, &mut router),
-        Err(_) => false,
-    }
-}
-
 /// Whether a router has counted one event, which it dropped, and is as it was but for that.
 fn has_dropped_one(router: &Router<'_>) -> bool {
     let counters = router.counters();
@@ -302,11 +277,14 @@ fn has_dropped_one(router: &Router<'_>) -> bool {
 }
 
 /// Whether the router drops an update of another session, and is as it was where that is undone.
-fn takes_a_drop_back(alloc: Global, instance: &Instance, router: &mut Router<'_>) -> bool
+fn takes_a_drop_back(
+    instance: &Instance,
+    router: &mut Router<'_>,
+    sends: &mut SmallVec<Event, 8>,
+) -> bool
     requires { instance.now ≡ router.old.net }
 {
     let event = update(1, 0, 0, 1, 1);
-    let sends = &mut SmallVec::new(alloc);
     let Ok(note) = handle(instance, router, &event, sends) else {
         return false;
     };
@@ -328,10 +306,9 @@ fn counts(sent: u64) -> Counters {
 }
 
 /// Whether the router, which may send once more, refuses an update that it would send on, and is as it was.
-fn is_full(alloc: Global, instance: &Instance, router: &mut Router<'_>) -> bool
+fn is_full(instance: &Instance, router: &mut Router<'_>, sends: &mut SmallVec<Event, 8>) -> bool
     requires { instance.now ≡ router.old.net }
 {
-    let sends = &mut SmallVec::new(alloc);
     handle(instance, router, &update(1, 0, 0, 1, 0), sends)
         == Err(OrMemory::Fault(Fault::CounterFull))
         && router.counters() == counts(MOST_COUNTED - 1)
@@ -340,13 +317,73 @@ fn is_full(alloc: Global, instance: &Instance, router: &mut Router<'_>) -> bool
 }
 
 /// Whether the router, which may send twice more, sends an update on to both its neighbours.
-fn sends_the_last(alloc: Global, instance: &Instance, router: &mut Router<'_>) -> bool
+fn sends_the_last(
+    instance: &Instance,
+    router: &mut Router<'_>,
+    sends: &mut SmallVec<Event, 8>,
+) -> bool
     requires { instance.now ≡ router.old.net }
 {
-    let sends = &mut SmallVec::new(alloc);
     handle(instance, router, &update(1, 0, 0, 1, 0), sends).is_ok()
         && times(sends, &[(2, MOST_COUNTED - 2), (2, MOST_COUNTED - 1)])
         && router.counters().sent == 1 << 48
+}
+
+/// What is asked of router 1.
+#[derive(Clone, Copy)]
+enum Asked<'a> {
+    /// It goes on and back on a trail.
+    Goes(&'a [Line<'a>]),
+    /// It takes an update back that it has dropped.
+    TakesADropBack,
+    /// It may send once more, and refuses to send twice.
+    IsFull,
+    /// It may send twice more, and does.
+    SendsTheLast,
+    /// It is not opened with counters that no run has.
+    RefusesCounters,
+}
+
+impl Asked<'_> {
+    /// The counters that the router begins with.
+    fn counters(self) -> Counters {
+        match self {
+            Asked::IsFull => counts(MOST_COUNTED - 1),
+            Asked::SendsTheLast => counts(MOST_COUNTED - 2),
+            _ => NO_COUNTS,
+        }
+    }
+}
+
+/// Whether it holds of a router.
+fn holds_of(
+    instance: &Instance,
+    router: &mut Router<'_>,
+    sends: &mut SmallVec<Event, 8>,
+    asked: Asked<'_>,
+) -> bool
+    requires { instance.now ≡ router.old.net }
+{
+    match asked {
+        Asked::TakesADropBack => takes_a_drop_back(instance, router, sends),
+        Asked::IsFull => is_full(instance, router, sends),
+        Asked::SendsTheLast => sends_the_last(instance, router, sends),
+        _ => false,
+    }
+}
+
+/// Whether it holds of router 1 with its counters.
+fn holds_of_router_1(alloc: Global, instance: &Instance, asked: Asked<'_>) -> bool
+    requires { 1 < instance.now.nodes }
+{
+    let Ok(mut router) = router(alloc, instance, asked.counters()) else {
+        return false;
+    };
+    let mut sends = SmallVec::new(alloc);
+    let holds = holds_of(instance, &mut router, &mut sends, asked);
+    drop(sends);
+    drop(router);
+    holds
 }
 
 fn refuses_impossible_counters(alloc: Global, instance: &Instance) -> bool
@@ -355,32 +392,93 @@ fn refuses_impossible_counters(alloc: Global, instance: &Instance) -> bool
     let mut counters = NO_COUNTS;
     counters.handled = 2;
     counters.dropped = 3;
-    let refused = matches!(
-        router(alloc, instance, counters),
-        Err(OrMemory::Fault(OpenFault::Counters))
-    );
+    let refused = router(alloc, instance, counters).err();
     counters.dropped = 2;
-    refused && router(alloc, instance, counters).is_ok()
+    let is_opened = router(alloc, instance, counters).err().is_none();
+    refused == Some(OrMemory::Fault(OpenFault::Counters)) && is_opened
 }
 
-/// What happens to router 1, each with a name and the text of the case.
-const TRAILS: [(&str, &str, &[Line<'static>]); 5] = [
-    ("each state", DISAGREE, &STATES),
-    ("the rank row", DISAGREE, &RANKS),
-    ("an exchange", RANK_EXCHANGE, &EXCHANGE),
-    ("a forbidden path", DISAGREE, &FORBIDDEN),
-    ("an allowed path", DISAGREE, &ALLOWED),
+/// Whether it holds in the instance of a case, which has three routers.
+fn holds_in(alloc: Global, instance: &Instance, asked: Asked<'_>) -> bool {
+    if instance.nodes() != 3 {
+        return false;
+    }
+    match asked {
+        Asked::Goes(lines) => goes_from_the_start(alloc, instance, lines),
+        Asked::RefusesCounters => refuses_impossible_counters(alloc, instance),
+        asked => holds_of_router_1(alloc, instance, asked),
+    }
+}
+
+/// Whether it holds in the case of a text.
+fn holds(alloc: Global, text: &str, asked: Asked<'_>) -> bool {
+    let Ok(case) = case(alloc, text) else {
+        return false;
+    };
+    let holds = holds_in(alloc, case.instance(), asked);
+    drop(case);
+    holds
+}
+
+/// What router 1 of a case does.
+struct Row {
+    name: &'static str,
+    text: &'static str,
+    asked: Asked<'static>,
+}
+
+/// What router 1 does.
+const ROWS: [Row; 9] = [
+    Row {
+        name: "each state",
+        text: DISAGREE,
+        asked: Asked::Goes(&STATES),
+    },
+    Row {
+        name: "the rank row",
+        text: DISAGREE,
+        asked: Asked::Goes(&RANKS),
+    },
+    Row {
+        name: "an exchange",
+        text: RANK_EXCHANGE,
+        asked: Asked::Goes(&EXCHANGE),
+    },
+    Row {
+        name: "a forbidden path",
+        text: DISAGREE,
+        asked: Asked::Goes(&FORBIDDEN),
+    },
+    Row {
+        name: "an allowed path",
+        text: DISAGREE,
+        asked: Asked::Goes(&ALLOWED),
+    },
+    Row {
+        name: "a drop is taken back",
+        text: DISAGREE,
+        asked: Asked::TakesADropBack,
+    },
+    Row {
+        name: "a counter is full",
+        text: DISAGREE,
+        asked: Asked::IsFull,
+    },
+    Row {
+        name: "the last two sends",
+        text: DISAGREE,
+        asked: Asked::SendsTheLast,
+    },
+    Row {
+        name: "impossible counters",
+        text: DISAGREE,
+        asked: Asked::RefusesCounters,
+    },
 ];
 
 #[test]
 fn router_1_goes_on_and_back(rt: HostRuntime) {
-    let alloc = rt.alloc();
-    for (name, text, lines) in &TRAILS {
-        let goes = |alloc, net: &Instance| goes_from_the_start(alloc, net, lines);
-        assert!(rt; holds(alloc, text, goes), "{name}");
+    for row in &ROWS {
+        assert!(rt; holds(rt.alloc(), row.text, row.asked), "{}", row.name);
     }
-    assert!(rt; holds_with(alloc, NO_COUNTS, takes_a_drop_back));
-    assert!(rt; holds_with(alloc, counts(MOST_COUNTED - 1), is_full));
-    assert!(rt; holds_with(alloc, counts(MOST_COUNTED - 2), sends_the_last));
-    assert!(rt; holds(alloc, DISAGREE, refuses_impossible_counters));
 }

@@ -3,7 +3,6 @@
 ghost use Rattle.std.specs.Prelude.{◌≡◌, ◌<◌, ◌≤◌};
 
 use crate::events::update;
-use crate::made::again;
 use std::alloc::{AllocError, Global};
 use tw_event::{Event, PathNo};
 use tw_held::HeldSends;
@@ -121,16 +120,25 @@ fn release(held: &mut HeldSends, sender: u32, outgoing: &mut Vec<Signed<Event>>)
 
 /// Whether these are the antimessages of the updates.
 fn are_back(outgoing: &[Signed<Event>], updates: &[Sent]) -> bool {
+    for (message, update) in outgoing.iter().zip(updates) {
+        if *message != back(*update) {
+            return false;
+        }
+    }
     outgoing.len() == updates.len()
-        && outgoing
-            .iter()
-            .zip(updates)
-            .all(|(message, update)| *message == back(*update))
+}
+
+/// A list with room for so many messages, made once more where memory was refused.
+fn room_for(alloc: Global, count: usize) -> Result<Vec<Signed<Event>>, AllocError> {
+    match Vec::with_capacity(alloc, count) {
+        Err(_) => Vec::with_capacity(alloc, count),
+        made => made,
+    }
 }
 
 /// Whether these events, by sender and then in their order, are all that is held; none is then.
 fn gives(alloc: Global, held: &mut HeldSends, updates: &[Sent]) -> bool {
-    let Ok(mut outgoing) = again(|| Vec::with_capacity(alloc, updates.len())) else {
+    let Ok(mut outgoing) = room_for(alloc, updates.len()) else {
         return false;
     };
     release(held, 0, &mut outgoing)
@@ -182,38 +190,53 @@ const WITH_ROOM: [Line; 8] = [
     Line::Remove((10, 2, 1), true),
 ];
 
-/// Whether the lines hold of what is held after these, and these events are held at last, by sender.
-fn goes_on(alloc: Global, before: &[Line], lines: &[Line], updates: &[Sent]) -> bool {
-    let held = &mut HeldSends::new(alloc, 3);
-    goes_by(held, before) && goes_by(held, lines) && gives(alloc, held, updates)
+/// What holds of held sends.
+struct Row {
+    name: &'static str,
+    /// What was done before.
+    before: &'static [Line],
+    /// What holds then.
+    lines: &'static [Line],
+    /// What is held at last, by sender.
+    left: &'static [Sent],
 }
 
-/// What holds of held sends: a name, what was done before, what holds then, and what is held at last.
-const ROWS: [(&str, &[Line], &[Line], &[Sent]); 3] = [
-    (
-        "found by its sender",
-        &SOME_HELD,
-        &FOUND,
-        &[(8, 1, 0), (6, 2, 0), (6, 2, 0), (10, 2, 1)],
-    ),
-    (
-        "sent again",
-        &SOME_HELD,
-        &SENT_AGAIN,
-        &[(8, 1, 0), (10, 2, 1)],
-    ),
-    (
-        "with room",
-        &[],
-        &WITH_ROOM,
-        &[(8, 1, 0), (6, 2, 0), (6, 2, 0)],
-    ),
+/// What holds of held sends.
+const ROWS: [Row; 3] = [
+    Row {
+        name: "found by its sender",
+        before: &SOME_HELD,
+        lines: &FOUND,
+        left: &[(8, 1, 0), (6, 2, 0), (6, 2, 0), (10, 2, 1)],
+    },
+    Row {
+        name: "sent again",
+        before: &SOME_HELD,
+        lines: &SENT_AGAIN,
+        left: &[(8, 1, 0), (10, 2, 1)],
+    },
+    Row {
+        name: "with room",
+        before: &[],
+        lines: &WITH_ROOM,
+        left: &[(8, 1, 0), (6, 2, 0), (6, 2, 0)],
+    },
 ];
+
+/// Whether a row holds where nothing is held yet.
+fn holds(alloc: Global, row: &Row) -> bool {
+    let mut held = HeldSends::new(alloc, 3);
+    let holds = goes_by(&mut held, row.before)
+        && goes_by(&mut held, row.lines)
+        && gives(alloc, &mut held, row.left);
+    drop(held);
+    holds
+}
 
 #[test]
 fn what_is_sent_is_held(rt: HostRuntime) {
-    for (name, before, lines, updates) in &ROWS {
-        assert!(rt; goes_on(rt.alloc(), before, lines, updates), "{name}");
+    for row in &ROWS {
+        assert!(rt; holds(rt.alloc(), row), "{}", row.name);
     }
 }
 
@@ -232,11 +255,13 @@ fn is_released(alloc: Global, held: &mut HeldSends, outgoing: &mut Vec<Signed<Ev
 
 /// The same of some held sends.
 fn are_released(alloc: Global) -> bool {
-    let held = &mut HeldSends::new(alloc, 3);
-    let Ok(mut outgoing) = again(|| Vec::with_capacity(alloc, 4)) else {
+    let Ok(mut outgoing) = room_for(alloc, 4) else {
         return false;
     };
-    goes_by(held, &SOME_HELD) && is_released(alloc, held, &mut outgoing)
+    let mut held = HeldSends::new(alloc, 3);
+    let is_so = goes_by(&mut held, &SOME_HELD) && is_released(alloc, &mut held, &mut outgoing);
+    drop(held);
+    is_so
 }
 
 #[test]
@@ -254,42 +279,56 @@ fn hand_over(held: &mut HeldSends, router: u32, to: &mut HeldSends) -> Result<()
     }
 }
 
-/// Whether what the router has sent goes to held sends with one of router 2 at time 7, and leaves the others.
-fn goes_to_another(alloc: Global, router: u32, left: &[Sent], given: &[Sent]) -> bool {
-    let held = &mut HeldSends::new(alloc, 3);
-    let to = &mut HeldSends::new(alloc, 3);
-    goes_by(held, &SOME_HELD)
-        && holds_on(to, Line::Insert((7, 2, 4)))
-        && hand_over(held, router, to).is_ok()
-        && gives(alloc, held, left)
-        && gives(alloc, to, given)
+/// What is left and what is given, each by sender, where a router's sends go to held sends with one of router 2 at time 7.
+struct HandOver {
+    router: u32,
+    left: &'static [Sent],
+    given: &'static [Sent],
 }
 
-/// What is left and what is given where a router's sends go to others, each by sender.
-const GIVEN: [(u32, &[Sent], &[Sent]); 3] = [
-    (
-        0,
-        &[(8, 1, 0), (6, 2, 0), (6, 2, 0), (10, 2, 1)],
-        &[(7, 2, 4)],
-    ),
-    (
-        1,
-        &[(6, 2, 0), (6, 2, 0), (10, 2, 1)],
-        &[(8, 1, 0), (7, 2, 4)],
-    ),
-    (
-        2,
-        &[(8, 1, 0)],
-        &[(6, 2, 0), (6, 2, 0), (7, 2, 4), (10, 2, 1)],
-    ),
+/// What is left and what is given where a router's sends go to others.
+const GIVEN: [HandOver; 3] = [
+    HandOver {
+        router: 0,
+        left: &[(8, 1, 0), (6, 2, 0), (6, 2, 0), (10, 2, 1)],
+        given: &[(7, 2, 4)],
+    },
+    HandOver {
+        router: 1,
+        left: &[(6, 2, 0), (6, 2, 0), (10, 2, 1)],
+        given: &[(8, 1, 0), (7, 2, 4)],
+    },
+    HandOver {
+        router: 2,
+        left: &[(8, 1, 0)],
+        given: &[(6, 2, 0), (6, 2, 0), (7, 2, 4), (10, 2, 1)],
+    },
 ];
+
+/// Whether what the router has sent goes over, and the others are left.
+fn is_given(alloc: Global, held: &mut HeldSends, to: &mut HeldSends, row: &HandOver) -> bool
+    requires first { held.old.routers ≡ 3 }
+    requires second { to.old.routers ≡ 3 }
+{
+    goes_by(held, &SOME_HELD)
+        && holds_on(to, Line::Insert((7, 2, 4)))
+        && hand_over(held, row.router, to).is_ok()
+        && gives(alloc, held, row.left)
+        && gives(alloc, to, row.given)
+}
+
+/// The same where nothing is held yet.
+fn goes_to_another(alloc: Global, row: &HandOver) -> bool {
+    let (mut held, mut to) = (HeldSends::new(alloc, 3), HeldSends::new(alloc, 3));
+    let is_given = is_given(alloc, &mut held, &mut to, row);
+    drop(to);
+    drop(held);
+    is_given
+}
 
 #[test]
 fn what_a_router_has_sent_goes_to_other_held_sends(rt: HostRuntime) {
-    for (router, left, given) in &GIVEN {
-        assert!(rt;
-            goes_to_another(rt.alloc(), *router, left, given),
-            "router {router}"
-        );
+    for row in &GIVEN {
+        assert!(rt; goes_to_another(rt.alloc(), row), "router {}", row.router);
     }
 }

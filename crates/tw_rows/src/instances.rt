@@ -7,13 +7,18 @@ use std::alloc::{AllocError, Global};
 use tw_event::PathNo;
 use tw_instance::{At, Case, Instance, Item, Link, OrMemory, PermittedPath, Rule, Scene};
 
-/// The permitted paths of DISAGREE.
+/// The permitted paths of DISAGREE, each with its owner.
+const PATHS: [(u32, &[u32]); 4] = [(1, &[1, 2, 0]), (1, &[1, 0]), (2, &[2, 1, 0]), (2, &[2, 0])];
+
+/// The same as items.
 fn paths(alloc: Global) -> Result<Vec<PermittedPath>, AllocError> {
-    let rows: [(u32, &[u32]); 4] = [(1, &[1, 2, 0]), (1, &[1, 0]), (2, &[2, 1, 0]), (2, &[2, 0])];
     let mut paths = Vec::new(alloc);
-    for (owner, nodes) in rows {
+    for (owner, nodes) in &PATHS {
         let nodes = Vec::from_slice(alloc, nodes)?;
-        paths.push(PermittedPath { owner, nodes })?;
+        paths.push(PermittedPath {
+            owner: *owner,
+            nodes,
+        })?;
     }
     Ok(paths)
 }
@@ -23,13 +28,16 @@ type Ends = (u32, u32, u64, u64);
 
 /// The links between these routers.
 fn links_of(alloc: Global, rows: &[Ends]) -> Result<Vec<Link>, AllocError> {
-    let link = |row: &Ends| Link {
-        first: row.0,
-        second: row.1,
-        delay: row.2,
-        back: row.3,
-    };
-    rows.iter().map(link).collect(alloc)
+    let mut links = Vec::new(alloc);
+    for (first, second, delay, back) in rows {
+        links.push(Link {
+            first: *first,
+            second: *second,
+            delay: *delay,
+            back: *back,
+        })?;
+    }
+    Ok(links)
 }
 
 /// The links of DISAGREE.
@@ -141,9 +149,12 @@ fn finds_its_paths(instance: &Instance) -> bool {
 
 /// Whether DISAGREE built from items is that of its text, and finds its paths.
 fn is_disagree(alloc: Global) -> bool {
-    build(alloc, 1, &LINKS, &[]).is_ok_and(|case| {
-        is_that_of_the_text(alloc, &case) && finds_its_paths(case.instance())
-    })
+    let Ok(case) = build(alloc, 1, &LINKS, &[]) else {
+        return false;
+    };
+    let is_so = is_that_of_the_text(alloc, &case) && finds_its_paths(case.instance());
+    drop(case);
+    is_so
 }
 
 #[test]
@@ -151,11 +162,19 @@ fn a_case_from_items_is_that_of_the_text(rt: HostRuntime) {
     assert!(rt; is_disagree(rt.alloc()));
 }
 
+/// Whether DISAGREE with two delays of a link, and a path that is forbidden and allowed, is that of its text.
+fn is_disagree_in_version_2(alloc: Global) -> bool {
+    let Ok(case) = build(alloc, 2, &TWO_DELAYS, &[FORBIDDEN, ALLOWED]) else {
+        return false;
+    };
+    let is_so = is_that_of_the_text_in_version_2(alloc, &case);
+    drop(case);
+    is_so
+}
+
 #[test]
 fn a_case_of_version_2_is_that_of_its_text(rt: HostRuntime) {
-    let alloc = rt.alloc();
-    let made = build(alloc, 2, &TWO_DELAYS, &[FORBIDDEN, ALLOWED]);
-    assert!(rt; made.is_ok_and(|case| is_that_of_the_text_in_version_2(alloc, &case)));
+    assert!(rt; is_disagree_in_version_2(rt.alloc()));
 }
 
 /// The link between the origin and router 2 fails.
@@ -187,82 +206,154 @@ const AT_ORIGIN: Scene = Scene::Allow {
     line: 1,
 };
 
-/// Whether the items are refused in this version, for this rule and at this item.
-fn is_refused(
-    alloc: Global,
+/// Items that are refused.
+struct Refused {
+    name: &'static str,
     version: u32,
-    links: &[Ends],
-    scenes: &[Scene],
-    broken: (Item, Rule),
-) -> bool {
-    let at = At {
-        item: broken.0,
-        fault: OrMemory::Fault(broken.1),
-    };
-    matches!(build(alloc, version, links, scenes), Err(OrMemory::Fault(found)) if found == at)
+    links: &'static [Ends],
+    scenes: &'static [Scene],
+    /// The item that breaks a rule.
+    item: Item,
+    /// The rule that it breaks.
+    rule: Rule,
 }
 
-/// Items that are refused: the version, the links, the scenario, and the item and the rule that it breaks. The first
-/// bad item is named; version 2 brings delays back and bars; the version is judged last.
-const REFUSED: [(u32, &[Ends], &[Scene], (Item, Rule)); 12] = [
-    (
-        1,
-        &[(0, 1, 1, 1), (1, 1, 0, 0)],
-        &[],
-        (Item::Link(2), Rule::SelfLink),
-    ),
-    (
-        1,
-        &[(0, 1, 1, 1), (1, 2, 1, 1)],
-        &[],
-        (Item::Path(1), Rule::PathNoLink),
-    ),
-    (
-        1,
-        &LINKS,
-        &[FAILURE, EXCHANGE],
-        (Item::Scene(2), Rule::NoSuchPlace),
-    ),
-    (
-        2,
-        &[(0, 1, 1, 1), (0, 2, 5, 0)],
-        &[],
-        (Item::Link(2), Rule::Delay),
-    ),
-    (
-        2,
-        &LINKS,
-        &[FORBIDDEN, BEYOND],
-        (Item::Scene(2), Rule::NoSuchPlace),
-    ),
-    (2, &LINKS, &[AT_ORIGIN], (Item::Scene(1), Rule::NoSuchPlace)),
-    (3, &LINKS, &[], (Item::Whole, Rule::Version)),
-    (0, &LINKS, &[], (Item::Whole, Rule::Version)),
-    (1, &LINKS, &[FORBIDDEN], (Item::Whole, Rule::Version)),
-    (1, &LINKS, &[ALLOWED], (Item::Whole, Rule::Version)),
-    (1, &TWO_DELAYS, &[], (Item::Whole, Rule::Version)),
-    (3, &LINKS, &[EXCHANGE], (Item::Scene(1), Rule::NoSuchPlace)),
+/// Whether the items are refused, for this rule and at this item.
+fn is_refused(alloc: Global, row: &Refused) -> bool {
+    let at = At {
+        item: row.item,
+        fault: OrMemory::Fault(row.rule),
+    };
+    match build(alloc, row.version, row.links, row.scenes) {
+        Err(fault) => fault == OrMemory::Fault(at),
+        Ok(case) => {
+            drop(case);
+            false
+        }
+    }
+}
+
+/// Items that are refused. The first bad item is named; version 2 brings delays back and bars; the version is judged last.
+const REFUSED: [Refused; 12] = [
+    Refused {
+        name: "a link to itself",
+        version: 1,
+        links: &[(0, 1, 1, 1), (1, 1, 0, 0)],
+        scenes: &[],
+        item: Item::Link(2),
+        rule: Rule::SelfLink,
+    },
+    Refused {
+        name: "a path without its link",
+        version: 1,
+        links: &[(0, 1, 1, 1), (1, 2, 1, 1)],
+        scenes: &[],
+        item: Item::Path(1),
+        rule: Rule::PathNoLink,
+    },
+    Refused {
+        name: "a place that router 2 lacks",
+        version: 1,
+        links: &LINKS,
+        scenes: &[FAILURE, EXCHANGE],
+        item: Item::Scene(2),
+        rule: Rule::NoSuchPlace,
+    },
+    Refused {
+        name: "a delay back of nothing",
+        version: 2,
+        links: &[(0, 1, 1, 1), (0, 2, 5, 0)],
+        scenes: &[],
+        item: Item::Link(2),
+        rule: Rule::Delay,
+    },
+    Refused {
+        name: "a path that router 2 lacks",
+        version: 2,
+        links: &LINKS,
+        scenes: &[FORBIDDEN, BEYOND],
+        item: Item::Scene(2),
+        rule: Rule::NoSuchPlace,
+    },
+    Refused {
+        name: "a path of the origin",
+        version: 2,
+        links: &LINKS,
+        scenes: &[AT_ORIGIN],
+        item: Item::Scene(1),
+        rule: Rule::NoSuchPlace,
+    },
+    Refused {
+        name: "a version to come",
+        version: 3,
+        links: &LINKS,
+        scenes: &[],
+        item: Item::Whole,
+        rule: Rule::Version,
+    },
+    Refused {
+        name: "a version before the first",
+        version: 0,
+        links: &LINKS,
+        scenes: &[],
+        item: Item::Whole,
+        rule: Rule::Version,
+    },
+    Refused {
+        name: "a path forbidden in version 1",
+        version: 1,
+        links: &LINKS,
+        scenes: &[FORBIDDEN],
+        item: Item::Whole,
+        rule: Rule::Version,
+    },
+    Refused {
+        name: "a path allowed in version 1",
+        version: 1,
+        links: &LINKS,
+        scenes: &[ALLOWED],
+        item: Item::Whole,
+        rule: Rule::Version,
+    },
+    Refused {
+        name: "two delays in version 1",
+        version: 1,
+        links: &TWO_DELAYS,
+        scenes: &[],
+        item: Item::Whole,
+        rule: Rule::Version,
+    },
+    Refused {
+        name: "the item before the version",
+        version: 3,
+        links: &LINKS,
+        scenes: &[EXCHANGE],
+        item: Item::Scene(1),
+        rule: Rule::NoSuchPlace,
+    },
 ];
 
 #[test]
 fn what_is_wrong_is_named(rt: HostRuntime) {
-    for (version, links, scenes, broken) in &REFUSED {
-        assert!(rt;
-            is_refused(rt.alloc(), *version, links, scenes, *broken),
-            "version {version}: {broken:?}"
-        );
+    for row in &REFUSED {
+        assert!(rt; is_refused(rt.alloc(), row), "{}", row.name);
     }
+}
+
+/// Whether a refusal is shown as this text, once more where memory was refused.
+fn is_shown(alloc: Global, at: At, text: &str) -> bool {
+    let shown = match format!(in alloc; "{at}") {
+        Err(_) => format!(in alloc; "{at}"),
+        shown => shown,
+    };
+    matches!(shown, Ok(shown) if shown.as_str() == text)
 }
 
 #[test]
 fn a_refusal_is_shown_with_its_item(rt: HostRuntime) {
-    let alloc = rt.alloc();
     let at = At {
         item: Item::Link(2),
         fault: OrMemory::Fault(Rule::SelfLink),
     };
-    let Ok(text) = format!(in alloc; "{at}").or_else(|_| format!(in alloc; "{at}")) else {
-        panic!(rt; "no memory")
-    };
-    assert!(rt; text.as_str() == "link 2: the ends of a link are equal");
+    assert!(rt; is_shown(rt.alloc(), at, "link 2: the ends of a link are equal"));
 }

@@ -37,10 +37,11 @@ fn finds_the_extreme(place: usize, length: usize) -> bool
     let mut times = [4; 200];
     ranks[place] = 6;
     times[place] = 2;
-    best_rank(&ranks[..length]) == 6
-        && first_equal(&ranks[..length], 6) == Some(place)
-        && least_time(&times[..length]) == Some(2)
-        && count_below(&times[..length], 4) == 1
+    let (ranks, times) = (&ranks[..length], &times[..length]);
+    best_rank(ranks) == 6
+        && first_equal(ranks, 6) == Some(place)
+        && least_time(times) == Some(2)
+        && count_below(times, 4) == 1
 }
 
 #[test]

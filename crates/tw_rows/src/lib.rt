@@ -4,6 +4,9 @@
 //! Each test tries a call once more where memory was refused, so that the tests also pass where any one
 //! allocation is refused, as `checks/refuse_memory.py` does with each, and `rt try --test --fail-alloc N`
 //! with the N-th.
+//!
+//! To prove a function takes the longer, the more parts the values have that it lets go, at each of its ends: so large
+//! ones are let go by `drop`, which does not see what it is given.
 #![tactic(auto)]
 
 #[cfg(test)]

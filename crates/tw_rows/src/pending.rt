@@ -3,7 +3,6 @@
 ghost use Rattle.std.specs.Prelude.{◌≡◌, ◌<◌, IfOk};
 
 use crate::events::update;
-use crate::made::again;
 use std::alloc::{AllocError, Global};
 use tw_event::{Event, PathNo};
 use tw_queue::Pending;
@@ -33,7 +32,10 @@ fn made(alloc: Global, by_time: bool) -> Result<Pending, AllocError>
 pub(crate) fn nothing(alloc: Global, by_time: bool) -> Result<Pending, AllocError>
     ensures { IfOk result (λ pending. pending.routers ≡ 3) }
 {
-    again(|| made(alloc, by_time))
+    match made(alloc, by_time) {
+        Err(_) => made(alloc, by_time),
+        pending => pending,
+    }
 }
 
 /// Inserts the event, once more where memory was refused.
@@ -183,17 +185,28 @@ pub(crate) fn goes_by(pending: &mut Pending, lines: &[Line<'_>]) -> bool
 
 /// Whether these are the events of the offers.
 fn are_these(events: &[Event], offers: &[Offer]) -> bool {
+    for (event, offered) in events.iter().zip(offers) {
+        if *event != event_of(*offered) {
+            return false;
+        }
+    }
     events.len() == offers.len()
-        && events
-            .iter()
-            .zip(offers)
-            .all(|(event, offered)| *event == event_of(*offered))
 }
 
-/// Whether these events are pending, listed once more where memory was refused.
+/// All that is pending, listed once more where memory was refused.
+fn list(pending: &Pending) -> Result<Vec<Event>, AllocError> {
+    match pending.list() {
+        Err(_) => pending.list(),
+        listed => listed,
+    }
+}
+
+/// Whether these events are pending.
 fn lists(pending: &Pending, offers: &[Offer]) -> bool {
-    pending.len() == offers.len()
-        && again(|| pending.list()).is_ok_and(|list| are_these(&list, offers))
+    let Ok(events) = list(pending) else {
+        return false;
+    };
+    pending.len() == offers.len() && are_these(&events, offers)
 }
 
 /// An event is counted as often as it was inserted, and events are taken in their order.
@@ -268,25 +281,59 @@ const APART: [Line<'static>; 9] = [
     Line::Empty,
 ];
 
-/// Whether the lines hold of what is pending after these.
-fn goes_on(alloc: Global, by_time: bool, before: &[Line<'_>], lines: &[Line<'_>]) -> bool {
-    nothing(alloc, by_time).is_ok_and(|mut pending| {
-        goes_by(&mut pending, before) && goes_by(&mut pending, lines)
-    })
+/// What holds of pending events.
+struct Row {
+    name: &'static str,
+    /// Whether they are kept by time.
+    by_time: bool,
+    /// What was done before.
+    before: &'static [Line<'static>],
+    /// What holds then.
+    lines: &'static [Line<'static>],
 }
 
-/// What holds of pending events: a name, whether they are kept by time, what was done before, and what holds then.
-const ROWS: [(&str, bool, &[Line<'static>], &[Line<'static>]); 4] = [
-    ("counted", false, &[], &COUNTED),
-    ("limited", true, &NEAR_AND_FAR, &LIMITED),
-    ("removed", true, &NEAR_AND_FAR, &REMOVED),
-    ("a turn apart", false, &[], &APART),
+/// What holds of pending events.
+const ROWS: [Row; 4] = [
+    Row {
+        name: "counted",
+        by_time: false,
+        before: &[],
+        lines: &COUNTED,
+    },
+    Row {
+        name: "limited",
+        by_time: true,
+        before: &NEAR_AND_FAR,
+        lines: &LIMITED,
+    },
+    Row {
+        name: "removed",
+        by_time: true,
+        before: &NEAR_AND_FAR,
+        lines: &REMOVED,
+    },
+    Row {
+        name: "a turn apart",
+        by_time: false,
+        before: &[],
+        lines: &APART,
+    },
 ];
+
+/// Whether a row holds of events of which none is pending yet.
+fn holds(alloc: Global, row: &Row) -> bool {
+    let Ok(mut pending) = nothing(alloc, row.by_time) else {
+        return false;
+    };
+    let holds = goes_by(&mut pending, row.before) && goes_by(&mut pending, row.lines);
+    drop(pending);
+    holds
+}
 
 #[test]
 fn events_are_pending_until_they_are_taken(rt: HostRuntime) {
-    for (name, by_time, before, lines) in &ROWS {
-        assert!(rt; goes_on(rt.alloc(), *by_time, before, lines), "{name}");
+    for row in &ROWS {
+        assert!(rt; holds(rt.alloc(), row), "{}", row.name);
     }
 }
 
@@ -298,7 +345,9 @@ fn scatter(pending: &mut Pending, events: &mut Vec<Event>) -> Result<(), AllocEr
     for seq in 0..600 {
         let event = event_of((seq * 769 % 3079, 1, seq));
         insert(pending, event)?;
-        again(|| events.push(event))?;
+        if events.push(event).is_err() {
+            events.push(event)?;
+        }
     }
     Ok(())
 }
@@ -311,16 +360,22 @@ fn comes_in_order(pending: &mut Pending, events: &mut [Event]) -> bool {
 
 /// Takes out the events whose numbers 3 divides, and tells whether each was there.
 fn removes_thirds(pending: &mut Pending, events: &[Event]) -> bool {
-    events
-        .iter()
-        .all(|event| event.seq % 3 != 0 || pending.remove_one(event))
+    for event in events {
+        if event.seq % 3 == 0 && !pending.remove_one(event) {
+            return false;
+        }
+    }
+    true
 }
 
 /// Takes out as many events as the list has others, and tells whether they came in its order.
 fn takes_others(pending: &mut Pending, events: &[Event]) -> bool {
-    events
-        .iter()
-        .all(|event| event.seq % 3 == 0 || takes(pending, *event))
+    for event in events {
+        if event.seq % 3 != 0 && !takes(pending, *event) {
+            return false;
+        }
+    }
+    true
 }
 
 /// Whether many events of a router come out as from a list of them.
@@ -329,12 +384,16 @@ fn many_come(alloc: Global, by_time: bool) -> bool {
         return false;
     };
     let mut events = Vec::new(alloc);
-    scatter(&mut pending, &mut events).is_ok() && comes_in_order(&mut pending, &mut events)
+    let come = scatter(&mut pending, &mut events).is_ok()
+        && comes_in_order(&mut pending, &mut events);
+    drop(events);
+    drop(pending);
+    come
 }
 
 #[test]
 fn many_events_come_out_as_from_a_list(rt: HostRuntime) {
-    for by_time in [false, true] {
-        assert!(rt; many_come(rt.alloc(), by_time), "{by_time}");
+    for by_time in &[false, true] {
+        assert!(rt; many_come(rt.alloc(), *by_time), "{by_time}");
     }
 }

@@ -3,8 +3,6 @@
 ghost use Rattle.std.specs.Prelude.{◌≡◌};
 ghost use Rattle.tw_seq.specs.Run.{complete_run};
 
-use crate::cases::case;
-use crate::texts::DISAGREE;
 use std::alloc::Global;
 use tw_event::Event;
 use tw_instance::Case;
@@ -32,16 +30,15 @@ fn are_logs_at_7(logs: &[Vec<Event>]) -> bool {
     matches!(logs, [origin, one, two] if has_times(origin, 0, 2) && has_times(one, 1, 3) && has_times(two, 2, 5))
 }
 
-/// A run of a case to 7 that is taken apart and taken up again, where its routers' events are those before 7.
-fn taken_up<'a>(case: &'a Case, run: TracedRun<'a>) -> Option<TracedRun<'a>>
+/// A run of a case to 7 that is taken apart and taken up again, and whether its routers' events are those before 7.
+fn taken_up<'a>(case: &'a Case, run: TracedRun<'a>) -> (TracedRun<'a>, bool)
     requires { run.run ≡ complete_run case.now 7 }
 {
     let (run, traces, logs) = run.into_parts();
     let (routers, pending, changed) = run.into_parts();
     let run = OneThread::resume(case, 7, routers, pending, changed);
     let kept = matches!(&logs, Some(logs) if are_logs_at_7(logs));
-    let run = TracedRun::resume(run, traces, logs);
-    if kept { Some(run) } else { None }
+    (TracedRun::resume(run, traces, logs), kept)
 }
 
 /// Whether what a run leaves at stop 20 is that of the case, quiet since 2.
@@ -52,26 +49,27 @@ fn is_quiet_at_20(outcome: &Outcome) -> bool {
         && Verdict::of(outcome, None) == Verdict::Quiet(2)
 }
 
-/// Whether a run goes on to 20, and ends as the case does.
-fn ends_at_20(run: Option<TracedRun<'_>>) -> bool {
-    let Some(mut run) = run else {
+/// Whether a run leaves what the case does at stop 20.
+fn is_left_quiet(run: &OneThread<'_>) -> bool {
+    let Ok(left) = run.outcome_without_events() else {
         return false;
     };
-    let over = run.run_to(20).is_ok();
-    let left = run.run().outcome_without_events();
-    over && matches!(left, Ok(outcome) if is_quiet_at_20(&outcome))
+    let is_quiet = is_quiet_at_20(&left);
+    drop(left);
+    is_quiet
 }
 
 /// Whether the run of a case is at 7 what its rows tell, and goes on from there.
-fn goes_on(alloc: Global, case: &Case) -> bool {
+pub(super) fn goes_on(alloc: Global, case: &Case) -> bool {
     let Ok(mut run) = TracedRun::new(alloc, case, true) else {
         return false;
     };
-    run.run_to(7).is_ok() && are_traces_at_7(run.traces()) && ends_at_20(taken_up(case, run))
-}
-
-#[test]
-fn a_run_is_taken_apart_and_goes_on(rt: HostRuntime) {
-    let alloc = rt.alloc();
-    assert!(rt; case(alloc, DISAGREE).is_ok_and(|case| goes_on(alloc, &case)));
+    if run.run_to(7).is_err() || !are_traces_at_7(run.traces()) {
+        drop(run);
+        return false;
+    }
+    let (mut run, kept) = taken_up(case, run);
+    let ends = run.run_to(20).is_ok() && is_left_quiet(run.run());
+    drop(run);
+    kept && ends
 }
