@@ -25,7 +25,6 @@ mod held;
 mod instances;
 #[cfg(test)]
 mod lanes;
-pub mod made;
 #[cfg(test)]
 mod pending;
 #[cfg(test)]
