@@ -173,7 +173,7 @@ pub(crate) fn count_round<M: ProcessModel>(members: &[Member<'_, M>], size: usiz
 }
 
 /// Why one of all did not go on in the last round: want of memory before a full counter.
-fn refused_in<M: ProcessModel>(members: &[Member<'_, M>], size: usize) -> Option<Refused>
+pub(crate) fn refused_in<M: ProcessModel>(members: &[Member<'_, M>], size: usize) -> Option<Refused>
     requires { 0 < size }
 {
     let mut refused = None;

@@ -8,8 +8,8 @@ ghost use Rattle.tw_sim.specs.Seq.{at};
 ghost use Rattle.tw_sim.specs.Simulation.{state};
 
 use crate::counts::Counts;
-use crate::dealing::{count_round, deal, send_all, tell};
-use crate::least::least_told;
+use crate::dealing::{count_round, deal, refused_in, send_all, tell};
+use crate::least::{least_of, least_told};
 use crate::limits::WORTH_THREADS;
 use crate::member::{Member, least_among};
 use crate::opening::open_all;
@@ -202,7 +202,18 @@ impl<'a, M: ProcessModel> TimeWarp<'a, M> {
         if self.bound >= self.stop {
             return Ok(());
         }
+        // At the bound that the processes know: an antimessage that is on its way may be for an event at a later one.
         tell(&mut self.members, self.share, self.bound)
+    }
+
+    /// The bound rises to the least time of all that waits or is on its way, and at most to the stop.
+    fn raise_bound(&mut self)
+        ensures same { IsSameRun self.old self.new }
+        ensures rises { self.old.bound ≤ self.new.bound }
+    {
+        let flying = least_among(&self.flight, self.stop);
+        let least = least_of(&self.members, flying);
+        self.bound = self.bound.max(least);
     }
 }
 
@@ -266,14 +277,19 @@ where
         if self.deal(workers).is_err() {
             return Err(Refused::Memory);
         }
-        self.turn(rt);
+        let went_on = self.turn(rt);
         self.count();
-        self.tell()
+        if went_on {
+            return Ok(());
+        }
+        self.tell()?;
+        self.raise_bound();
+        Ok(())
     }
 
-    /// Each share of the processes takes its turn, and the bound rises to the least time of all that waits or is on its way,
-    /// and at most to the stop.
-    fn turn<R: Threads + Sync>(&mut self, rt: &R)
+    /// Each share of the processes takes its turn. Where all went on, the bound rises to the least time of all that waits
+    /// or is on its way, and at most to the stop; it is answered whether they did.
+    fn turn<R: Threads + Sync>(&mut self, rt: &R) -> bool
         ensures same { IsSameRun self.old self.new }
         ensures rises { self.old.bound ≤ self.new.bound }
     {
@@ -284,8 +300,12 @@ where
             stop: self.stop,
         };
         turn_all(rt, &mut self.members, self.share, round);
+        if refused_in(&self.members, self.share).is_some() {
+            return false;
+        }
         let flying = least_among(&self.flight, self.stop);
         let least = least_told(&self.members, self.share, flying);
         self.bound = self.bound.max(least);
+        true
     }
 }
