@@ -20,8 +20,9 @@ use Rattle.tw_model.specs.Net.{Net}
 use Rattle.tw_model.specs.State.{State}
 use Rattle.tw_shard.specs.declared.timeline.HandledEvent.{HandledEvent}
 use Rattle.tw_shard.specs.Commit.{committed_at, committed_to, committing, count_left, not_before}
-use Rattle.tw_shard.specs.Shard.{IsSoundShard, Shard, owns, shard_core, timeline}
-use Rattle.tw_shard.specs.Timeline.{AreNoted, Timeline, changes_path, events_of, history, known, last_change_at, noted_change}
+use Rattle.tw_shard.specs.Past.{own_run}
+use Rattle.tw_shard.specs.Shard.{FollowsRun, IsSoundShard, Shard, owns, shard_core, timeline}
+use Rattle.tw_shard.specs.Timeline.{AreNoted, IsRunUntil, Timeline, changes_path, events_of, history, known, last_change_at, noted_change}
 use Rattle.tw_shard.proofs.Histories.{length-events, reverse-push}
 use Rattle.tw_shard.proofs.Shares.{put_same, read_put, read_same, timeline_here}
 use Rattle.tw_sim.specs.Simulation.{IsFalling, below}
@@ -281,6 +282,16 @@ module _ (s : Shard) (r : ℕ) (whole : IsSoundShard s) (mine : owns s r ≡ tru
   pub goes : WasEarly → (stop : ℕ) → committing stop s r ≡ Ok (shard_core stop (committed_at s r))
   goes early stop =
       ap (λ b. if b then Ok (with_commit (simulation s.terms.case) (shard_core stop s) r) else Err NotMine) mine ∙ ap (λ c. Ok c) (sym (core_committed early stop))
+
+  -- a history that follows the run does so at the timeline
+  pub runs_until : FollowsRun s r → IsRunUntil s.bound (timeline s r)
+  runs_until follows =
+      let own = whole.routers r mine in
+      let here : (shard_core 0 s).history r ≡ history (timeline s r) = rw mine refl in
+      record {
+        falling = subst (λ case. IsFalling (simulation case) (history (timeline s r))) (sym own.case) (subst (IsFalling (simulation s.terms.case)) here follows.falling);
+        run = (λ i. below (simulation (own.case i)) s.bound (sym here i)) ∙ (follows.run ∙ (λ i. own_run (sym own.case i) (sym own.node i) s.bound));
+      }
 
   -- what is said of a router's timeline after a commit, of a history of this case
   committed_timeline : (P : Timeline → Case → List Event → Type 0) → P (committed_to s.bound (timeline s r)) (timeline s r).case (history (timeline s r))

@@ -1,11 +1,36 @@
-use Rattle.std.proofs.Common.{◌≡◌, ◌≤◌, refl, ap, sym, ◌∙◌, subst, true, set, get_or, arith}
+use Rattle.std.proofs.Common.{◌≡◌, ℕ, ◌<◌, ◌≤◌, List, false, refl, ap, sym, ◌∙◌, subst, true, set, get_or, arith}
 use Rattle.std.specs.List.{AllByRecursion}
-use Rattle.tw_shard.specs.Commit.{committed_to}
-use Rattle.tw_shard.proofs.Commits.{kept_history}
+use Rattle.tw_model.specs.Case.{simulation}
+use Rattle.tw_shard.specs.Commit.{committed_to, not_before}
+use Rattle.tw_shard.proofs.Commits.{kept_history, runs_until}
+use Rattle.tw_shard.specs.declared.shard.Shard.TheInside.{Inside}
 use Rattle.tw_shard.specs.Inside.{shard_of}
-use Rattle.tw_shard.specs.Shard.{no_timeline, owns, place, timeline}
+use Rattle.tw_shard.specs.Shard.{Shard, no_timeline, owns, place, timeline}
+use Rattle.tw_shard.specs.Timeline.{IsRunUntil, Timeline, history}
 use Rattle.tw_shard.proofs.Fields.{changed_shard, other_items}
+use Rattle.tw_sim.specs.Simulation.{IsFalling, below}
 use Rattle.tw_shard.proofs.shard.Shard.commit_own.Goals as goal
+
+-- the timeline that is read is the router's
+there : (a : Inside) (x : Shard) (r k : ℕ) (ts : List Timeline) → shard_of a ≡ x → k ≡ place x r → ts ≡ a.timelines.items → get_or ts k no_timeline ≡ timeline (shard_of a) r
+there a x r k ts is at all = λ i. get_or (all i) ((at ∙ ap (λ s. place s r) (sym is)) i) no_timeline
+
+-- and so is what is told of it
+told : (a : Inside) (x : Shard) (r k : ℕ) (ts : List Timeline) → shard_of a ≡ x → k ≡ place x r → ts ≡ a.timelines.items
+    → (P : ℕ → Timeline → Type 0) → P a.bound (get_or ts k no_timeline) → P x.bound (timeline x r)
+told a x r k ts is at all P h = subst (λ (s : Shard). P s.bound (timeline s r)) is (subst (P a.bound) (there a x r k ts is at all) h)
+
+pub commit_at-requires-clause-run : goal.commit_at-requires-clause-run
+commit_at-requires-clause-run c = λ lets_go.
+    let a = c.self.inside in
+    let x = c.args.self.now in
+    let r = c.args.router in
+    let mine = c.requires.own in
+    let whole = c.place-place.ensures.whole in
+    let same = there a x r c.place-place.result c.deref_mut.result.now c.self.view_is c.place-place.ensures.value c.deref_mut.ensures.value in
+    let retains : x.terms.retains ≡ false = sym (whole.routers r mine).retains ∙ (ap (λ s. (timeline s r).retains) (sym c.self.view_is) ∙ (ap (λ (t : Timeline). t.retains) (sym same) ∙ lets_go)) in
+    subst (IsRunUntil a.bound) (sym same)
+    (subst (λ (s : Shard). IsRunUntil s.bound (timeline s r)) (sym c.self.view_is) (runs_until x r whole mine (c.requires.run retains)))
 
 pub invariant_of-self-2 : goal.invariant_of-self-2
 invariant_of-self-2 c =
@@ -28,3 +53,18 @@ invariant_of-self-2 c =
       kept_routers = refl;
       held_routers = refl;
     }) own.net own.node (omega arith) own.case own.retains c.self.invariant.whole.pending c.self.invariant.whole.held (omega arith) (subst (AllByRecursion (λ x. x.time ≤ a.latest)) (sym (kept_history a.bound (timeline s r))) (c.self.invariant.latest r mine))
+
+pub returns-clause-past : goal.returns-clause-past
+returns-clause-past c =
+    told c.self.inside c.args.self.now c.args.router c.place-place.result c.deref_mut.result.now c.self.view_is c.place-place.ensures.value c.deref_mut.ensures.value
+    (λ bound t. IsFalling (simulation t.case) (history t) → (committed_to bound t).past ≡ below (simulation t.case) bound (history t)) c.in_ok-commit_at.ensures.past
+
+pub returns-clause-ahead : goal.returns-clause-ahead
+returns-clause-ahead c =
+    told c.self.inside c.args.self.now c.args.router c.place-place.result c.deref_mut.result.now c.self.view_is c.place-place.ensures.value c.deref_mut.ensures.value
+    (λ bound t. IsFalling (simulation t.case) (history t) → (committed_to bound t).ahead ≡ not_before bound (history t)) c.in_ok-commit_at.ensures.ahead
+
+pub returns-clause-early : goal.returns-clause-early
+returns-clause-early c =
+    told c.self.inside c.args.self.now c.args.router c.place-place.result c.deref_mut.result.now c.self.view_is c.place-place.ensures.value c.deref_mut.ensures.value
+    (λ bound t. AllByRecursion (λ e. e.time < t.done) t.past) c.in_ok-commit_at.ensures.early
