@@ -1,5 +1,5 @@
 -- What a shard does at one of its routers is what the machine of its routers does there.
-use Rattle.std.proofs.Common.{◌≡◌, ℕ, ◌<◌, ◌≤◌, ◌==◌, Bool, true, false, ◌||◌, List, [], ◌∷◌, ◌++◌, drop, length, map, refl, ap, ap₂, sym, ◌∙◌, inl, inr, nat_lt, Some, slice_get, Result, Ok, Err, if◌then◌else◌, arith}
+use Rattle.std.proofs.Common.{◌≡◌, ℕ, ◌<◌, ◌≤◌, ◌==◌, ◌↔◌, Bool, true, false, ◌||◌, List, [], ◌∷◌, ◌++◌, drop, length, map, refl, ap, ap₂, sym, ◌∙◌, inl, inr, nat_lt, Some, slice_get, Result, Ok, Err, if◌then◌else◌, arith}
 use Rattle.std.specs.List.{AllByRecursion}
 use Rattle.std.specs.Result.{result_and}
 use Rattle.std.proofs.lemmas.Bool.{and_parts, cases_Bool, eqb-true, false_from_ne_true, lt-ltb, ltb-true}
@@ -12,6 +12,8 @@ use Rattle.tw_core.specs.Steps.{after_handling, after_undoing, first_pending, ha
 use Rattle.tw_event.specs.declared.event.Event.{Event}
 use Rattle.tw_handlers.specs.Calls.{is_full_at}
 use Rattle.tw_model.specs.Case.{simulation}
+use Rattle.tw_model.specs.declared.memory.OrMemory.{OrMemory}
+use Rattle.tw_model.specs.declared.memory.OrMemory.TheVariants.{Fault, Memory}
 use Rattle.tw_model.specs.Effect.{body_suits, effect, is_full, suits}
 use Rattle.tw_shard.specs.Shard.{HandlesNext, IsSoundShard, IsUndone, Shard, handled_at, handling, may_handle, owns, shard_core, timeline, undoing, undone_at}
 use Rattle.tw_shard.specs.Timeline.{Timeline, history, known, router_of, sends_after, signed}
@@ -25,6 +27,17 @@ told_ok = Ok tt
 not_told : (outcome : Result (Core Event) Refusal) (f : Refusal) → outcome ≡ Err f → told_ok ≡ result_and outcome told_ok → ⊥
 not_told (Ok c) f is h = cc is
 not_told (Err g) f is h = cc h
+
+-- a fault is told where the machine refuses as it says
+pub told_as : {A B : Type 0} {x : Result B Refusal} (f g : Refusal) → x ≡ Err g → ◌≡◌ {A = Result A (OrMemory Refusal)} (Err (Fault g)) (Err (Fault f)) ↔ (x ≡ Err f)
+told_as f g is = ((λ h. is ∙ cc h), (λ h. cc (is, h)))
+
+-- and none where it goes on, nor for want of memory
+pub told_none : {A B : Type 0} {x : Result B Refusal} {b : B} (f : Refusal) (a : A) → x ≡ Ok b → ◌≡◌ {A = Result A (OrMemory Refusal)} (Ok a) (Err (Fault f)) ↔ (x ≡ Err f)
+told_none f a is = ((λ h. absurd (cc h)), (λ h. absurd (cc (is, h))))
+
+pub told_memory : {A B : Type 0} {x : Result B Refusal} {b : B} (f : Refusal) → x ≡ Ok b → ◌≡◌ {A = Result A (OrMemory Refusal)} (Err Memory) (Err (Fault f)) ↔ (x ≡ Err f)
+told_memory f is = ((λ h. absurd (cc h)), (λ h. absurd (cc (is, h))))
 
 -- what an event leads to that may equal the one handled last, and for which there may be no room
 abbrev checked : {A : Type 0} → Bool → Bool → Result A Refusal → Result A Refusal

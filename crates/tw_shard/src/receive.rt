@@ -194,11 +194,8 @@ impl<'a> Shard<'a> {
         ensures whole { IsSoundShard self.now }
     {
         match self.timeline(event.dst).newest_ahead() {
+            Some(newest) => is_past(newest, event, reach),
             None => false,
-            Some(newest) => match reach {
-                Reach::Later => event.is_before(newest),
-                Reach::From => !newest.is_before(event),
-            },
         }
     }
 
@@ -210,5 +207,15 @@ impl<'a> Shard<'a> {
         ensures whole { IsSoundShard self.now }
     {
         self.timeline(event.dst).has_ahead(event)
+    }
+}
+
+/// Whether an event that was handled, the newest one, is past one that comes.
+fn is_past(newest: &Event, event: &Event, reach: Reach) -> bool
+    ensures { result ≡ rolls reach event.now newest.now }
+{
+    match reach {
+        Reach::Later => event.is_before(newest),
+        Reach::From => !newest.is_before(event),
     }
 }

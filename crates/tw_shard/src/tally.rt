@@ -1,5 +1,7 @@
 //! What a shard's routers have undone and taken back, as it is counted. No promise rests on it.
 
+use tw_sim::Cancel;
+
 /// What routers have undone, what was taken back by it, and what came of that (after Jefferson, Virtual Time, 1985, and
 /// Gafni, Rollback Mechanisms for Optimistic Distributed Simulation Systems, 1988).
 #[derive(Clone, Copy, Default, PartialEq, Eq, Debug)]
@@ -39,11 +41,14 @@ impl Tally {
         }
     }
 
-    /// An event was undone: for what it had sent, so many antimessages went out, and so many messages are held.
-    pub(crate) fn count_undone(&mut self, antimessages: usize, held: usize) {
+    /// An event was undone, which had sent so many messages: antimessages went out for them, or they are held.
+    pub(crate) fn count_undone(&mut self, sent: usize, cancel: Cancel) {
         self.undone = self.undone.saturating_add(1);
-        self.antimessages = self.antimessages.saturating_add(antimessages as u64);
-        self.matched = self.matched.saturating_add(held as u64);
+        let sent = sent as u64;
+        match cancel {
+            Cancel::Aggressive => self.antimessages = self.antimessages.saturating_add(sent),
+            Cancel::Lazy => self.matched = self.matched.saturating_add(sent),
+        }
     }
 
     /// For a message or an antimessage all was undone that had to be; so many events were undone before it came.

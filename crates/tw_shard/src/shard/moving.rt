@@ -14,7 +14,9 @@ use crate::roster::Roster;
 use crate::timeline::Timeline;
 use std::alloc::AllocError;
 use tw_core::Refusal;
+use tw_held::HeldSends;
 use tw_model::OrMemory;
+use tw_queue::Pending;
 
 impl<'a> Shard<'a> {
     /// One of its routers goes to another shard, with all that is its own: its state, its history with the records,
@@ -53,12 +55,16 @@ impl<'a> Shard<'a> {
         ensures err { OnErr result (self.new ≡ self.old) }
         ensures none_came { OnErr result (to.new ≡ to.old) }
     {
-        to.roster.reserve_one()?;
-        to.timelines.reserve(1)?;
-        to.pending.reserve(self.pending.len())?;
-        to.kept.reserve(self.kept.len())?;
-        to.held.reserve(self.held.count_of_sender(router))?;
-        let held = to.held.len();
+        let held = self.held.count_of_sender(router);
+        reserve_place(&mut to.roster, &mut to.timelines)?;
+        reserve_events(
+            &mut to.pending,
+            self.pending.len(),
+            &mut to.kept,
+            self.kept.len(),
+            &mut to.held,
+            held,
+        )?;
         self.pending.hand_over(router, &mut to.pending).unwrap();
         self.kept.hand_over(router, &mut to.kept).unwrap();
         self.held.hand_over(router, &mut to.held).unwrap();
@@ -67,11 +73,49 @@ impl<'a> Shard<'a> {
         to.timelines.push_reserved(timeline);
         to.latest = to.latest.max(self.latest);
         to.bound = to.bound.max(self.bound);
-        let held = to.held.len().saturating_sub(held);
         self.tally.count_leaving(held);
         to.tally.count_coming(held);
         Ok(())
     }
+}
+
+/// Makes room for one more router, with its timeline.
+fn reserve_place(
+    roster: &mut Roster,
+    timelines: &mut Vec<Timeline<'_>>,
+) -> Result<(), AllocError>
+    ensures room { OnOk result (0 < roster.new.room) }
+    ensures capacity { OnOk result (vec_len timelines.new < vec_capacity timelines.new) }
+    ensures count { roster.new.count ≡ roster.old.count }
+    ensures routers { roster.new.routers ≡ roster.old.routers }
+    ensures timelines { timelines.new.items ≡ timelines.old.items }
+{
+    roster.reserve_one()?;
+    timelines.reserve(1)
+}
+
+/// Makes room for so many more events of each kind.
+fn reserve_events(
+    pending: &mut Pending,
+    waiting: usize,
+    kept: &mut Pending,
+    keeping: usize,
+    held: &mut HeldSends,
+    holding: usize,
+) -> Result<(), AllocError>
+    ensures waiting { OnOk result (waiting ≤ pending.new.room) }
+    ensures keeping { OnOk result (keeping ≤ kept.new.room) }
+    ensures holding { OnOk result (holding ≤ held.new.room) }
+    ensures pending { pending.new.events ≡ pending.old.events }
+    ensures kept { kept.new.events ≡ kept.old.events }
+    ensures held { held.new.events ≡ held.old.events }
+    ensures pending_routers { pending.new.routers ≡ pending.old.routers }
+    ensures kept_routers { kept.new.routers ≡ kept.old.routers }
+    ensures held_routers { held.new.routers ≡ held.old.routers }
+{
+    pending.reserve(waiting)?;
+    kept.reserve(keeping)?;
+    held.reserve(holding)
 }
 
 /// Takes out a router with its timeline.

@@ -155,8 +155,6 @@ impl<'a> Shard<'a> {
     {
         self.pending.reserve(1)?;
         let place = self.place(router);
-        let sent = self.outgoing.len();
-        let held = self.held.len();
         let event = undo_at(
             &mut self.timelines,
             place,
@@ -166,9 +164,7 @@ impl<'a> Shard<'a> {
             &mut self.outgoing,
         )?;
         self.pending.insert(event).unwrap();
-        let sent = self.outgoing.len().saturating_sub(sent);
-        let held = self.held.len().saturating_sub(held);
-        self.tally.count_undone(sent, held);
+        self.tally.count_undone(self.sends.len(), self.cancel);
         Ok(())
     }
 }

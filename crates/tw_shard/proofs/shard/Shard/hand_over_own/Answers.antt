@@ -1,4 +1,4 @@
-use Rattle.std.proofs.Common.{rules, ◌≡◌, ◌++◌, ◌∷◌, [], true, false, ap, sym, subst, ◌∙◌, arith}
+use Rattle.std.proofs.Common.{◌≡◌, ◌++◌, ◌∷◌, [], true, false, ap, sym, subst, ◌∙◌, arith}
 use Rattle.tw_event.specs.Order.{event_before}
 use Rattle.tw_held.specs.Held.{sent_by, sent_by_others}
 use Rattle.tw_ordered.specs.Queue.{for_others, for_router}
@@ -55,22 +55,22 @@ to_now c = record {
 }
 
 pending_left : (c : goal.After-count_coming) → c.hand_over.new.self.events ≡ for_others c.args.router (shard_of c.self.inside).pending
-pending_left c = search rules
+pending_left c = rw c.unwrap.ensures at c.hand_over.ensures.rest
 
 pending_come : (c : goal.After-count_coming) → c.hand_over.new.to.events ≡ insert_all event_before (for_router c.args.router (shard_of c.self.inside).pending) (shard_of c.to.inside).pending
-pending_come c = search rules
+pending_come c = (rw c.unwrap.ensures at c.hand_over.ensures.given) ∙ ap (insert_all event_before (for_router c.args.router (shard_of c.self.inside).pending)) c.reserve_events.ensures.pending
 
 kept_left : (c : goal.After-count_coming) → c.hand_over-2.new.self.events ≡ for_others c.args.router (shard_of c.self.inside).kept
-kept_left c = search rules
+kept_left c = rw c.unwrap-2.ensures at c.hand_over-2.ensures.rest
 
 kept_come : (c : goal.After-count_coming) → c.hand_over-2.new.to.events ≡ insert_all event_before (for_router c.args.router (shard_of c.self.inside).kept) (shard_of c.to.inside).kept
-kept_come c = search rules
+kept_come c = (rw c.unwrap-2.ensures at c.hand_over-2.ensures.given) ∙ ap (insert_all event_before (for_router c.args.router (shard_of c.self.inside).kept)) c.reserve_events.ensures.kept
 
 held_left : (c : goal.After-count_coming) → c.hand_over-3.new.self.events ≡ sent_by_others c.args.router (shard_of c.self.inside).held
-held_left c = search rules
+held_left c = rw c.unwrap-3.ensures at c.hand_over-3.ensures.rest
 
 held_come : (c : goal.After-count_coming) → c.hand_over-3.new.to.events ≡ insert_all event_before (sent_by c.args.router (shard_of c.self.inside).held) (shard_of c.to.inside).held
-held_come c = search rules
+held_come c = (rw c.unwrap-3.ensures at c.hand_over-3.ensures.given) ∙ ap (insert_all event_before (sent_by c.args.router (shard_of c.self.inside).held)) c.reserve_events.ensures.held
 
 left_is : (c : goal.After-count_coming) → left c ≡ self_now c
 left_is c =
@@ -91,10 +91,10 @@ come_is c =
     let s = shard_of c.self.inside in
     let t = shard_of c.to.inside in
     let r = c.args.router in
-    let routers = c.add.ensures.routers ∙ ap (λ rs. rs ++ r ∷ []) c.reserve_one.ensures.routers in
+    let routers = c.add.ensures.routers ∙ ap (λ rs. rs ++ r ∷ []) c.reserve_place.ensures.routers in
     let lines =
     c.push_reserved.ensures.items
-    ∙ (λ i. c.reserve.ensures.items i ++ c.take_out-timeline.ensures.timeline i ∷ []) in
+    ∙ (λ i. c.reserve_place.ensures.timelines i ++ c.take_out-timeline.ensures.timeline i ∷ []) in
     λ i. record {
       terms = t.terms;
       routers = sym routers i;
@@ -124,10 +124,10 @@ pub invariant_of-to-2 : goal.invariant_of-to-2
 invariant_of-to-2 c =
     record {
       whole = subst IsSoundShard (come_is c) (whole_come (shard_of c.self.inside) (shard_of c.to.inside) c.args.router c.self.invariant.whole (mine c) c.to.invariant.whole (new c) (same_case c) (same_keeps c));
-      roster = c.add.ensures.count ∙ (c.reserve_one.ensures.count ∙ c.to.invariant.roster);
-      pending = c.hand_over.ensures.to_routers ∙ (c.reserve-2.ensures.routers ∙ c.to.invariant.pending);
-      kept = c.hand_over-2.ensures.to_routers ∙ (c.reserve-3.ensures.routers ∙ c.to.invariant.kept);
-      held = c.hand_over-3.ensures.to_routers ∙ (c.reserve-4.ensures.routers ∙ c.to.invariant.held);
+      roster = c.add.ensures.count ∙ (c.reserve_place.ensures.count ∙ c.to.invariant.roster);
+      pending = c.hand_over.ensures.to_routers ∙ (c.reserve_events.ensures.pending_routers ∙ c.to.invariant.pending);
+      kept = c.hand_over-2.ensures.to_routers ∙ (c.reserve_events.ensures.kept_routers ∙ c.to.invariant.kept);
+      held = c.hand_over-3.ensures.to_routers ∙ (c.reserve_events.ensures.held_routers ∙ c.to.invariant.held);
       latest = subst (HasHandledTo c.max-to-inside.result) (come_is c) (latest_come (shard_of c.self.inside) (shard_of c.to.inside) c.args.router c.self.invariant.whole (mine c) c.to.invariant.whole (new c) (same_case c) (same_keeps c)
           c.self.inside.latest c.to.inside.latest c.max-to-inside.result (let later = c.max-to-inside.ensures in omega arith) (let later = c.max-to-inside.ensures in omega arith) c.self.invariant.latest c.to.invariant.latest);
     }

@@ -1,10 +1,11 @@
 use Rattle.std.proofs.Common.{◌≡◌, ◌<◌, ℕ, true, Some, Ok, Err, ap, sym, ◌∙◌}
 use Rattle.tw_core.specs.Steps.{first_pending}
+use Rattle.tw_core.specs.declared.refusal.Refusal.TheVariants.{CounterFull}
 use Rattle.tw_event.specs.declared.event.Event.{Event}
 use Rattle.tw_model.specs.Case.{simulation}
 use Rattle.tw_model.specs.Effect.{suits}
-use Rattle.tw_shard.specs.Shard.{HandlesNext, Shard, handled_at, handling, may_handle, owns, shard_core}
-use Rattle.tw_shard.proofs.Steps.{goes_on, is_stuck}
+use Rattle.tw_shard.specs.Shard.{HandlesNext, Shard, may_handle, owns, shard_core}
+use Rattle.tw_shard.proofs.Steps.{goes_on, is_stuck, told_as, told_memory, told_none}
 use Rattle.tw_shard.proofs.shard.Shard.handle_first.Goals as goal
 
 next : (s : Shard) (e : Event) → owns s e.dst ≡ true → ((stop : ℕ) → first_pending (simulation s.terms.case) (shard_core stop s) e.dst ≡ Some e) → may_handle s e.dst e ≡ Ok tt
@@ -12,9 +13,7 @@ next : (s : Shard) (e : Event) → owns s e.dst ≡ true → ((stop : ℕ) → f
 next s e own first free suit stop soon = record { own = own; first = first stop; soon = soon; free = free; suit = suit }
 
 pub returns-in-Err-clause-refused : goal.returns-in-Err-clause-refused
-returns-in-Err-clause-refused c = λ stop soon f.
-    let told = c.may_handle_first.ensures.err c.in-Err.refusal c.in-Err.is stop soon in
-    ((λ h. told ∙ cc h), (λ h. cc (told, h)))
+returns-in-Err-clause-refused c = λ stop soon f. told_as f c.in-Err.refusal (c.may_handle_first.ensures.err c.in-Err.refusal c.in-Err.is stop soon)
 
 pub returns-in-Ok-clause-ok : goal.returns-in-Ok-clause-ok
 returns-in-Ok-clause-ok c = λ stop soon.
@@ -29,9 +28,7 @@ returns-in-Ok-clause-refused c = λ stop soon f.
     let s = c.args.self.now in
     let e = c.args.event.now in
     let is = next s e c.in_default.ensures.own c.requires.next c.in_default.ensures.free c.requires.suit stop soon in
-    let done : handling stop s e.dst ≡ Ok (shard_core stop (handled_at s e.dst e)) =
-    goes_on s e.dst c.may_handle_first.ensures.whole c.in_default.ensures.own stop e is (λ full. cc (c.in-Ok.ensures.full.1 full)) in
-    ((λ h. absurd (cc h)), (λ h. absurd (cc (done, h))))
+    told_none f tt (goes_on s e.dst c.may_handle_first.ensures.whole c.in_default.ensures.own stop e is (λ full. cc (c.in-Ok.ensures.full.1 full)))
 
 pub returns-in-Err-Fault-clause-refused : goal.returns-in-Err-Fault-clause-refused
 returns-in-Err-Fault-clause-refused c = λ stop soon f.
@@ -39,13 +36,11 @@ returns-in-Err-Fault-clause-refused c = λ stop soon f.
     let e = c.args.event.now in
     let is = next s e c.in_default.ensures.own c.requires.next c.in_default.ensures.free c.requires.suit stop soon in
     let full = c.in-Err-Fault.ensures.full.0 (ap (λ x. Err x) c.in-Err-Fault.field-0-is) in
-    let stuck = is_stuck s e.dst c.may_handle_first.ensures.whole c.in_default.ensures.own stop e is full in
-    ((λ h. stuck ∙ cc h), (λ h. cc (stuck, h)))
+    told_as f CounterFull (is_stuck s e.dst c.may_handle_first.ensures.whole c.in_default.ensures.own stop e is full)
 
 pub returns-in-Err-Memory-clause-refused : goal.returns-in-Err-Memory-clause-refused
 returns-in-Err-Memory-clause-refused c = λ stop soon f.
     let s = c.args.self.now in
     let e = c.args.event.now in
     let is = next s e c.in_default.ensures.own c.requires.next c.in_default.ensures.free c.requires.suit stop soon in
-    let going = goes_on s e.dst c.may_handle_first.ensures.whole c.in_default.ensures.own stop e is (λ full. cc (c.in-Err-Memory.ensures.full.1 full, c.in-Err-Memory.field-0-is)) in
-    ((λ h. absurd (cc h)), (λ h. absurd (cc (going, h))))
+    told_memory f (goes_on s e.dst c.may_handle_first.ensures.whole c.in_default.ensures.own stop e is (λ full. cc (c.in-Err-Memory.ensures.full.1 full, c.in-Err-Memory.field-0-is)))

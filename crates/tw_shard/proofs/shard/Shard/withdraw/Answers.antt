@@ -1,4 +1,5 @@
-use Rattle.std.proofs.Common.{◌<◌, subst}
+use Rattle.std.proofs.Common.{◌<◌, sym, ◌∙◌, subst}
+use Rattle.std.proofs.lemmas.Bool.{false≢true}
 use Rattle.tw_event.specs.Order.{event_same}
 use Rattle.tw_shard.specs.Shard.{Shard, timeline}
 use Rattle.tw_shard.proofs.Comings.{antimessage_came, antimessage_early}
@@ -16,7 +17,7 @@ returns-in_ok-roll_back-clause-ok c =
     let is = c.take_pending.ensures.none c.if-take_pending.false in
     let e = c.args.event.now in
     antimessage_came c.args.self.now c.take_pending.new.self c.roll_back.new.self c.take_pending-then-has_handled.new.self e is c.requires.own
-    (λ some. cc (c.take_pending.ensures.value.1 some, c.if-take_pending.false))
+    (λ some. false≢true (sym c.if-take_pending.false ∙ c.take_pending.ensures.value.1 some))
     (subst (λ (s : Shard). 0 < times event_same e (timeline s e.dst).ahead) is (c.has_handled.ensures.value.0 c.if-has_handled.true))
     c.in_ok-roll_back.ensures.ok c.take_pending-then-has_handled.ensures.without
 
@@ -25,6 +26,6 @@ returns-in_ok-add_kept-clause-ok c =
     let is = c.take_pending.ensures.none c.if-take_pending.false in
     let e = c.args.event.now in
     antimessage_early c.args.self.now c.take_pending.new.self c.add_kept.new.self e is c.has_handled.ensures.whole c.requires.own c.requires.late
-    (λ some. cc (c.take_pending.ensures.value.1 some, c.if-take_pending.false))
-    (λ some. cc (c.has_handled.ensures.value.1 some, c.if-has_handled.false))
+    (λ some. false≢true (sym c.if-take_pending.false ∙ c.take_pending.ensures.value.1 some))
+    (λ some. false≢true (sym c.if-has_handled.false ∙ c.has_handled.ensures.value.1 some))
     c.has_handled.ensures.past c.in_ok-add_kept.ensures.ok
