@@ -3,6 +3,7 @@
 ghost use Rattle.std.specs.Prelude.{◌≡◌, ◌==◌, ◌<◌, [], ℕ, filter, if◌then◌else◌, length, map, slice_index_or, IfOk, OnOk};
 ghost use Rattle.std.specs.List.{AllByRecursion, range_with_len};
 ghost use Rattle.tw_event.specs.Order.{event_before};
+ghost use Rattle.tw_model.specs.Case.{opening_events};
 ghost use Rattle.tw_ordered.specs.Queue.{AreFor};
 ghost use Rattle.tw_shard.specs.Roster.{has};
 ghost use Rattle.tw_shard.specs.Shard.{IsOpeningBy, IsOpeningShard};
@@ -93,10 +94,10 @@ impl<'a> Shard<'a> {
         ensures { (who : ℕ → ℕ) → roster.routers ≡ filter (λ r. who r == worker) (range_with_len 0 case.now.net.nodes)
             → IfOk result (λ shard. IsOpeningBy case.now who worker workers retains cancel shard) }
     {
-        let nodes = case.instance().nodes();
+        let instance = case.instance();
         let timelines = opening_timelines(alloc, case, roster.routers(), retains)?;
-        let pending = queue_of(alloc, nodes, case.openings(), &roster, false)?;
-        let kept = Pending::new(alloc, nodes)?;
+        let pending = opening_queue(alloc, case, &roster)?;
+        let kept = Pending::new(alloc, instance.nodes())?;
         Ok(Shard {
             case,
             worker,
@@ -106,7 +107,7 @@ impl<'a> Shard<'a> {
             pending,
             kept,
             outgoing: Vec::new(alloc),
-            held: HeldSends::new(alloc, nodes),
+            held: HeldSends::new(alloc, instance.nodes()),
             sends: SmallVec::new(alloc),
             latest: 0,
             ticks: 0,
@@ -128,50 +129,30 @@ fn opening_timelines<'a>(
     requires { AllByRecursion (λ r. r < case.now.net.nodes) routers.now }
     ensures { IfOk result (λ timelines. timelines.items ≡ map (opening_timeline case.now retains) routers.now) }
 {
-    let mut timelines = Vec::with_capacity(alloc, routers.len())?;
+    let mut timelines = Vec::new(alloc);
     for router in routers {
-        timelines.push_reserved(Timeline::open(alloc, case, *router, retains)?);
+        timelines.push(Timeline::open(alloc, case, *router, retains)?)?;
     }
     Ok(timelines)
 }
 
-/// The events for these routers, kept by time where this says so.
-pub(super) fn queue_of(
-    alloc: Global,
-    nodes: u32,
-    events: &[Event],
-    roster: &Roster,
-    by_time: bool,
-) -> Result<Pending, AllocError>
-    requires { AreFor nodes events.now }
-    ensures events { IfOk result (λ pending. pending.events ≡ insert_all event_before (filter (λ e. has roster.now.routers e.dst) events.now) []) }
-    ensures routers { IfOk result (λ pending. pending.routers ≡ nodes) }
+/// The opening events for these routers.
+fn opening_queue(alloc: Global, case: &Case, roster: &Roster) -> Result<Pending, AllocError>
+    ensures events { IfOk result (λ pending. pending.events
+        ≡ insert_all event_before (filter (λ e. has roster.now.routers e.dst) (opening_events case.now.scenes)) []) }
+    ensures routers { IfOk result (λ pending. pending.routers ≡ case.now.net.nodes) }
 {
-    let mut pending = Pending::new(alloc, nodes)?;
-    fill(&mut pending, events, roster, by_time)?;
+    let mut pending = Pending::new(alloc, case.instance().nodes())?;
+    insert_own(&mut pending, case.openings(), roster)?;
     Ok(pending)
 }
 
-/// Adds the events that are for these routers to what is kept by time from now on, where this says so.
-fn fill(
+/// Adds the events that are for these routers, each in its place.
+pub(super) fn insert_own(
     pending: &mut Pending,
     events: &[Event],
     roster: &Roster,
-    by_time: bool,
 ) -> Result<(), AllocError>
-    requires { AreFor pending.old.routers events.now }
-    ensures events { OnOk result
-        (pending.new.events ≡ insert_all event_before (filter (λ e. has roster.now.routers e.dst) events.now) pending.old.events) }
-    ensures routers { pending.new.routers ≡ pending.old.routers }
-{
-    if by_time {
-        pending.keep_by_time()?;
-    }
-    insert_own(pending, events, roster)
-}
-
-/// Adds the events that are for these routers, each in its place.
-fn insert_own(pending: &mut Pending, events: &[Event], roster: &Roster) -> Result<(), AllocError>
     requires { AreFor pending.old.routers events.now }
     ensures events { OnOk result
         (pending.new.events ≡ insert_all event_before (filter (λ e. has roster.now.routers e.dst) events.now) pending.old.events) }

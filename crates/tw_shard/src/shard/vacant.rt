@@ -5,12 +5,14 @@ ghost use Rattle.std.specs.List.{AllByRecursion, range_with_len};
 ghost use Rattle.tw_event.specs.Order.{event_before};
 ghost use Rattle.tw_model.specs.Case.{simulation};
 ghost use Rattle.tw_shard.specs.Cut.{IsRouterOf, IsShardAt, timeline_at};
+ghost use Rattle.tw_ordered.specs.Queue.{AreFor};
+ghost use Rattle.tw_shard.specs.Roster.{has};
 ghost use Rattle.tw_shard.specs.Shard.{routers};
 ghost use Rattle.tw_sim.specs.Ordered.{insert_all};
 ghost use Rattle.tw_sim.specs.Seq.{rest};
 
 use super::Shard;
-use super::open::queue_of;
+use super::open::insert_own;
 use crate::ahead::Ahead;
 use crate::roster::Roster;
 use crate::router_at::RouterAt;
@@ -81,7 +83,7 @@ impl<'a> VacantShard<'a> {
         let count = roster.routers().len();
         let timelines = Vec::with_capacity(alloc, count)?;
         let rings = empty_rings(alloc, count)?;
-        let pending = queue_of(alloc, nodes, pending, &roster, true)?;
+        let pending = queue_at(alloc, nodes, pending, &roster)?;
         let kept = Pending::new(alloc, nodes)?;
         Ok(VacantShard {
             case,
@@ -153,4 +155,21 @@ fn empty_rings(alloc: Global, count: usize) -> Result<Vec<Ahead>, AllocError>
         rings.push_reserved(Ahead::new(alloc)?);
     }
     Ok(rings)
+}
+
+/// The events for these routers, kept by time.
+fn queue_at(
+    alloc: Global,
+    nodes: u32,
+    events: &[Event],
+    roster: &Roster,
+) -> Result<Pending, AllocError>
+    requires { AreFor nodes events.now }
+    ensures events { IfOk result (λ pending. pending.events ≡ insert_all event_before (filter (λ e. has roster.now.routers e.dst) events.now) []) }
+    ensures routers { IfOk result (λ pending. pending.routers ≡ nodes) }
+{
+    let mut pending = Pending::new(alloc, nodes)?;
+    pending.keep_by_time()?;
+    insert_own(&mut pending, events, roster)?;
+    Ok(pending)
 }

@@ -1,10 +1,8 @@
-use Rattle.std.proofs.Common.{◌≡◌, ◌<◌, [], filter, map, refl, subst, ap, ◌∙◌}
-use Rattle.tw_event.specs.Order.{event_before}
-use Rattle.tw_sim.specs.Ordered.{insert_all}
-use Rattle.tw_shard.specs.Roster.{StandsInList, has}
+use Rattle.std.proofs.Common.{◌<◌, map, refl, subst, ap, ◌∙◌}
+use Rattle.tw_shard.specs.Roster.{StandsInList}
 use Rattle.tw_shard.specs.Shard.{Shard}
 use Rattle.tw_shard.specs.Timeline.{opening_timeline}
-use Rattle.tw_shard.proofs.Openings.{IsBegun, latest_begun, opening, opening_home, whole_begun}
+use Rattle.tw_shard.proofs.Openings.{IsBegun, latest_begun, opening, whole_begun}
 use Rattle.tw_shard.proofs.Rosters.{all_standing}
 use Rattle.tw_shard.proofs.shard.Shard.with_roster.Goals as goal
 
@@ -13,11 +11,6 @@ opening_timelines-requires c =
     let rs = c.routers.ensures.value in
     all_standing (λ r. r < c.args.case.now.net.nodes) c.routers.result.now
     (λ k r at. subst (λ n. r < n) c.requires.count (c.routers.ensures.roster.known k r (subst (λ rs. StandsInList rs k r) rs at)))
-
-pub queue_of-requires : goal.queue_of-requires
-queue_of-requires c =
-    opening_home c.args.case.now c.nodes-nodes.result c.openings.result.now c.openings.ensures.case c.openings.ensures.value
-    (c.nodes-nodes.ensures.value ∙ ap (λ net. net.nodes) c.instance.ensures.value)
 
 abbrev shard_of : goal.After-default → Shard
 shard_of c = record {
@@ -33,28 +26,25 @@ shard_of c = record {
 
 is_begun : (c : goal.After-default) → IsBegun (shard_of c)
 is_begun c = record {
-  case = c.instance.ensures.case;
+  case = c.instance-instance.ensures.case;
   worker = c.requires.worker;
   known = λ k r at. subst (λ n. r < n) c.requires.count (c.routers.ensures.roster.known k r at);
   apart = c.routers.ensures.roster.apart;
   timelines = c.in_ok-timelines.ensures ∙ ap (λ rs. map (opening_timeline c.args.case.now c.args.retains) rs) c.routers.ensures.value;
-  pending = c.in_ok-pending.ensures.events ∙ ap (λ es. insert_all event_before (filter (λ e. has c.args.roster.routers e.dst) es) []) c.openings.ensures.value;
+  pending = c.in_ok-pending.ensures.events;
   kept = c.in_ok-kept.ensures.empty;
   outgoing = c.new-2.ensures.items;
   held = c.new-3.ensures.empty;
   bound = refl;
 }
 
-count : (c : goal.After-default) → c.nodes-nodes.result ≡ c.args.case.now.net.nodes
-count c = c.nodes-nodes.ensures.value ∙ ap (λ net. net.nodes) c.instance.ensures.value
-
 pub invariant_of-result : goal.invariant_of-result
 invariant_of-result c = record {
   whole = whole_begun (shard_of c) (is_begun c);
   roster = c.requires.count;
-  pending = c.in_ok-pending.ensures.routers ∙ count c;
-  kept = c.in_ok-kept.ensures.routers ∙ count c;
-  held = c.new-3.ensures.routers ∙ count c;
+  pending = c.in_ok-pending.ensures.routers;
+  kept = c.in_ok-kept.ensures.routers ∙ (c.nodes.ensures.value ∙ ap (λ net. net.nodes) c.instance-instance.ensures.value);
+  held = c.new-3.ensures.routers ∙ (c.nodes-2.ensures.value ∙ ap (λ net. net.nodes) c.instance-instance.ensures.value);
   latest = latest_begun (shard_of c) (is_begun c);
 }
 

@@ -1,5 +1,4 @@
-use Rattle.std.proofs.Common.{◌≡◌, ◌<◌, ◌≤◌, ◌+◌, ◌++◌, drop, length, map}
-use Rattle.std.specs.Prelude.{vec_capacity, vec_len}
+use Rattle.std.proofs.Common.{◌≡◌, ◌<◌, ◌++◌, drop, map}
 use Rattle.std.specs.List.{AllByRecursion}
 use Rattle.tw_shard.specs.Timeline.{opening_timeline}
 use Rattle.tw_shard.proofs.shard.open.opening_timelines.Given as goal
@@ -7,6 +6,5 @@ use Rattle.tw_shard.proofs.shard.open.opening_timelines.Given as goal
 abbrev pub invariant-loop-router : goal.invariant-loop-router
 invariant-loop-router l = record {
   opened : l.timelines.items ++ map (opening_timeline l.case l.retains) (drop l.router-index l.routers) ≡ map (opening_timeline l.case l.retains) l.routers;
-  room : vec_len l.timelines + length (drop l.router-index l.routers) ≤ vec_capacity l.timelines;
   there : AllByRecursion (λ r. r < l.case.net.nodes) (drop l.router-index l.routers);
 }

@@ -6,8 +6,8 @@ use Rattle.tw_shard.specs.Roster.{has}
 use Rattle.tw_shard.proofs.Cuts.{given_home, given_own}
 use Rattle.tw_shard.proofs.shard.vacant.VacantShard.at.Goals as goal
 
-pub queue_of-requires : goal.queue_of-requires
-queue_of-requires c =
+pub queue_at-requires : goal.queue_at-requires
+queue_at-requires c =
     let nodes = c.nodes-nodes.ensures.value ∙ ap (λ net. net.nodes) c.instance.ensures.value in
     subst (λ n. AreFor n c.args.pending.now) (sym nodes) (given_home c.args.case.now c.instance.ensures.case c.args.time c.args.pending.now c.requires.pending)
 
