@@ -1,5 +1,5 @@
 -- The fields of a shard once one of its routers has changed.
-use Rattle.std.proofs.Common.{◌≡◌, ℕ, ◌≤◌, ◌==◌, true, List, [], ◌∷◌, ◌++◌, length, set, take, refl, ap, sym, ◌∙◌, subst, nat_le}
+use Rattle.std.proofs.Common.{◌≡◌, ℕ, ◌≤◌, ◌==◌, true, List, [], ◌∷◌, ◌++◌, get_or, length, set, take, refl, ap, sym, ◌∙◌, subst, nat_le}
 use Rattle.std.specs.List.{AllByRecursion}
 use Rattle.std.proofs.lemmas.Bool.{and_parts, eqb-true}
 use Rattle.tw_event.specs.declared.event.Event.{Event}
@@ -9,7 +9,7 @@ use Rattle.tw_model.specs.Effect.{body_suits, fits, suits}
 use Rattle.tw_model.specs.Net.{Net}
 use Rattle.tw_shard.specs.declared.shard.Shard.TheInside.{Inside}
 use Rattle.tw_shard.specs.Inside.{HasHandledTo, IsShard, shard_of, terms_of}
-use Rattle.tw_shard.specs.Shard.{IsSoundShard, Terms, owns, place}
+use Rattle.tw_shard.specs.Shard.{IsSoundShard, Shard, Terms, no_timeline, owns, place, timeline}
 use Rattle.tw_shard.specs.Timeline.{Timeline, history}
 use Rattle.tw_shard.proofs.Latest.{latest_changed}
 use Rattle.tw_shard.proofs.Shares.{changed, whole_after}
@@ -31,6 +31,10 @@ fits_home net v e h =
 pub fits_suits : (net : Net) (v : ℕ) (e : Event) → fits net v e ≡ true → suits net e.dst e ≡ true
 fits_suits net v e h =
     subst (λ w. suits net w e ≡ true) (sym (fits_home net v e h)) (and_parts (nat_le e.time LATEST) (suits net v e) h).1
+
+-- the timeline that is read at a router's place is the router's
+pub read_here : (a : Inside) (x : Shard) (r k : ℕ) (lines : List Timeline) → shard_of a ≡ x → k ≡ place x r → lines ≡ a.timelines.items → get_or lines k no_timeline ≡ timeline x r
+read_here a x r k lines is at all = (λ i. get_or (all i) (at i) no_timeline) ∙ ap (λ (s : Shard). get_or s.timelines (place x r) no_timeline) is
 
 -- b has another timeline of router r, and perhaps another list of what is pending, what is sent and what is held
 pub record IsChanged (a b : Inside) (r : ℕ) (t : Timeline) : Type 0 where

@@ -7,18 +7,14 @@ use Rattle.tw_shard.specs.declared.shard.Shard.TheInside.{Inside}
 use Rattle.tw_shard.specs.Inside.{shard_of}
 use Rattle.tw_shard.specs.Shard.{Shard, no_timeline, owns, place, timeline}
 use Rattle.tw_shard.specs.Timeline.{IsRunUntil, Timeline, history}
-use Rattle.tw_shard.proofs.Fields.{changed_shard, other_items}
+use Rattle.tw_shard.proofs.Fields.{changed_shard, other_items, read_here}
 use Rattle.tw_sim.specs.Simulation.{IsFalling, below}
 use Rattle.tw_shard.proofs.shard.Shard.commit_own.Goals as goal
 
--- the timeline that is read is the router's
-there : (a : Inside) (x : Shard) (r k : ℕ) (ts : List Timeline) → shard_of a ≡ x → k ≡ place x r → ts ≡ a.timelines.items → get_or ts k no_timeline ≡ timeline (shard_of a) r
-there a x r k ts is at all = λ i. get_or (all i) ((at ∙ ap (λ s. place s r) (sym is)) i) no_timeline
-
--- and so is what is told of it
-told : (a : Inside) (x : Shard) (r k : ℕ) (ts : List Timeline) → shard_of a ≡ x → k ≡ place x r → ts ≡ a.timelines.items
-    → (P : ℕ → Timeline → Type 0) → P a.bound (get_or ts k no_timeline) → P x.bound (timeline x r)
-told a x r k ts is at all P h = subst (λ (s : Shard). P s.bound (timeline s r)) is (subst (P a.bound) (there a x r k ts is at all) h)
+-- what is told of the timeline that is read is told of the router's
+told : (a : Inside) (x : Shard) (r k : ℕ) (lines : List Timeline) → shard_of a ≡ x → k ≡ place x r → lines ≡ a.timelines.items
+    → (P : ℕ → Timeline → Type 0) → P a.bound (get_or lines k no_timeline) → P x.bound (timeline x r)
+told a x r k lines is at all P h = subst (λ (s : Shard). P s.bound (timeline x r)) is (subst (P a.bound) (read_here a x r k lines is at all) h)
 
 pub commit_at-requires-clause-run : goal.commit_at-requires-clause-run
 commit_at-requires-clause-run c = λ lets_go.
@@ -27,10 +23,9 @@ commit_at-requires-clause-run c = λ lets_go.
     let r = c.args.router in
     let mine = c.requires.own in
     let whole = c.place-place.ensures.whole in
-    let same = there a x r c.place-place.result c.deref_mut.result.now c.self.view_is c.place-place.ensures.value c.deref_mut.ensures.value in
-    let retains : x.terms.retains ≡ false = sym (whole.routers r mine).retains ∙ (ap (λ s. (timeline s r).retains) (sym c.self.view_is) ∙ (ap (λ (t : Timeline). t.retains) (sym same) ∙ lets_go)) in
-    subst (IsRunUntil a.bound) (sym same)
-    (subst (λ (s : Shard). IsRunUntil s.bound (timeline s r)) (sym c.self.view_is) (runs_until x r whole mine (c.requires.run retains)))
+    let here = read_here a x r c.place-place.result c.deref_mut.result.now c.self.view_is c.place-place.ensures.value c.deref_mut.ensures.value in
+    let retains : x.terms.retains ≡ false = sym (whole.routers r mine).retains ∙ (ap (λ (t : Timeline). t.retains) (sym here) ∙ lets_go) in
+    subst (IsRunUntil a.bound) (sym here) (subst (λ (s : Shard). IsRunUntil s.bound (timeline x r)) (sym c.self.view_is) (runs_until x r whole mine (c.requires.run retains)))
 
 pub invariant_of-self-2 : goal.invariant_of-self-2
 invariant_of-self-2 c =

@@ -1,4 +1,4 @@
-use Rattle.std.proofs.Common.{◌≡◌, ◌≤◌, arith, refl, ap, sym, ◌∙◌, subst, true, set, get_or, ◌++◌}
+use Rattle.std.proofs.Common.{◌≡◌, ◌<◌, ◌≤◌, arith, length, refl, ap, sym, ◌∙◌, subst, true, set, get_or, ◌++◌}
 use Rattle.std.specs.Vec.{with_items}
 use Rattle.std.specs.List.{AllByRecursion}
 use Rattle.tw_core.specs.Steps.{held_back, sent_back}
@@ -8,12 +8,39 @@ use Rattle.tw_sim.specs.Ordered.{insert}
 use Rattle.tw_sim.specs.Rising.{IsRising}
 use Rattle.tw_sim.proofs.Ordered.{all-insert}
 use Rattle.tw_model.specs.Effect.{fits, suits}
+use Rattle.tw_model.specs.Rules.{IsNet}
 use Rattle.tw_shard.specs.Inside.{shard_of}
 use Rattle.tw_shard.specs.Shard.{IsUndone, no_timeline, owns, place, timeline}
 use Rattle.tw_shard.specs.Timeline.{Timeline, sends_after}
 use Rattle.tw_shard.proofs.Fields.{changed_shard, fits_home, fits_suits, other_items}
 use Rattle.tw_shard.proofs.Holding.{rising-held_back}
 use Rattle.tw_shard.proofs.shard.Shard.step_back.Goals as goal
+
+pub undo_at-requires-clause-some : goal.undo_at-requires-clause-some
+undo_at-requires-clause-some c =
+    let a = c.self.inside in
+    let r = c.args.router in
+    let at : c.place-place.result ≡ place (shard_of a) r = c.place-place.ensures.value in
+    let there : get_or c.deref_mut.result.now c.place-place.result no_timeline ≡ timeline (shard_of a) r = λ i. get_or (c.deref_mut.ensures.value i) (at i) no_timeline in
+    subst (λ (t : Timeline). 0 < length t.ahead) (sym there) (subst (λ s. 0 < length (timeline s r).ahead) (sym c.self.view_is) c.requires.some)
+
+pub undo_at-requires-clause-net : goal.undo_at-requires-clause-net
+undo_at-requires-clause-net c =
+    let a = c.self.inside in
+    let r = c.args.router in
+    let at : c.place-place.result ≡ place (shard_of a) r = c.place-place.ensures.value in
+    let there : get_or c.deref_mut.result.now c.place-place.result no_timeline ≡ timeline (shard_of a) r = λ i. get_or (c.deref_mut.ensures.value i) (at i) no_timeline in
+    let own = c.self.invariant.whole.routers r (subst (λ s. owns s r ≡ true) (sym c.self.view_is) c.requires.own) in
+    subst (λ (t : Timeline). IsNet t.net) (sym there) (subst IsNet (sym own.net) c.self.invariant.whole.case.net)
+
+pub undo_at-requires-clause-routers : goal.undo_at-requires-clause-routers
+undo_at-requires-clause-routers c =
+    let a = c.self.inside in
+    let r = c.args.router in
+    let at : c.place-place.result ≡ place (shard_of a) r = c.place-place.ensures.value in
+    let there : get_or c.deref_mut.result.now c.place-place.result no_timeline ≡ timeline (shard_of a) r = λ i. get_or (c.deref_mut.ensures.value i) (at i) no_timeline in
+    let own = c.self.invariant.whole.routers r (subst (λ s. owns s r ≡ true) (sym c.self.view_is) c.requires.own) in
+    c.self.invariant.held ∙ (ap (λ net. net.nodes) (sym own.net) ∙ ap (λ (t : Timeline). t.net.nodes) (sym there))
 
 pub invariant_of-self-3 : goal.invariant_of-self-3
 invariant_of-self-3 c =

@@ -2,17 +2,36 @@ use Rattle.std.proofs.Common.{◌≡◌, refl, ap, sym, ◌∙◌, ◌∷◌, �
 use Rattle.std.specs.List.{AllByRecursion}
 use Rattle.tw_core.specs.Steps.{still_held, to_send}
 use Rattle.tw_event.specs.Order.{event_before, event_same}
+use Rattle.tw_handlers.specs.Calls.{is_full_at}
 use Rattle.tw_model.specs.Case.{Case, simulation}
-use Rattle.tw_model.specs.Effect.{suits}
+use Rattle.tw_model.specs.Effect.{fits, suits}
 use Rattle.tw_shard.specs.Inside.{shard_of}
 use Rattle.tw_shard.specs.Shard.{handled_at, no_timeline, owns, place, timeline}
-use Rattle.tw_shard.proofs.Fields.{changed_shard, other_items}
-use Rattle.tw_shard.specs.Timeline.{Timeline, history, sends_after, signed}
+use Rattle.tw_shard.proofs.Fields.{changed_shard, other_items, read_here}
+use Rattle.tw_shard.specs.Timeline.{Timeline, history, router_of, sends_after, signed}
 use Rattle.tw_shard.proofs.Holding.{rising-still_held}
 use Rattle.tw_shard.proofs.Latest.{until_later}
 use Rattle.tw_shard.proofs.Queues.{suit_without}
 use Rattle.tw_sim.specs.Rising.{IsRising}
 use Rattle.tw_shard.proofs.shard.Shard.step_on.Goals as goal
+
+pub handle_at-requires-clause-fits : goal.handle_at-requires-clause-fits
+handle_at-requires-clause-fits c =
+    let x = c.args.self.now in
+    let r = c.args.router in
+    let e = c.args.event.now in
+    let own = c.place-place.ensures.whole.routers r c.requires.own in
+    let here = read_here c.self.inside x r c.place-place.result c.deref_mut.result.now c.self.view_is c.place-place.ensures.value c.deref_mut.ensures.value in
+    (λ i. fits (here i).net (here i).node e) ∙ ((λ i. fits (own.net i) (own.node i) e) ∙ c.requires.fits)
+
+pub returns-clause-full : goal.returns-clause-full
+returns-clause-full c =
+    let x = c.args.self.now in
+    let r = c.args.router in
+    let is_full = λ (t : Timeline). is_full_at (router_of t) c.args.event.now ≡ true in
+    let here = read_here c.self.inside x r c.place-place.result c.deref_mut.result.now c.self.view_is c.place-place.ensures.value c.deref_mut.ensures.value in
+    let full = c.in_ok-handle_at.ensures.full in
+    ((λ h. subst is_full here (full.0 h)), (λ h. full.1 (subst is_full (sym here) h)))
 
 pub invariant_of-self-2 : goal.invariant_of-self-2
 invariant_of-self-2 c =
