@@ -1,13 +1,27 @@
-use Rattle.std.proofs.Common.{◌≡◌, ◌++◌, ◌∷◌, [], true, false, ap, sym, subst, ◌∙◌, arith}
+use Rattle.std.proofs.Common.{◌≡◌, ◌<◌, ◌++◌, ◌∷◌, [], true, false, ap, sym, subst, ◌∙◌, arith}
 use Rattle.tw_event.specs.Order.{event_before}
 use Rattle.tw_held.specs.Held.{sent_by, sent_by_others}
 use Rattle.tw_ordered.specs.Queue.{for_others, for_router}
 use Rattle.tw_sim.specs.Ordered.{insert_all}
 use Rattle.tw_shard.specs.Inside.{HasHandledTo, shard_of, terms_of}
 use Rattle.tw_shard.specs.Moving.{HasMovedIn, HasMovedOut}
+use Rattle.tw_shard.specs.Roster.{has}
 use Rattle.tw_shard.specs.Shard.{IsSoundShard, Shard, owns}
 use Rattle.tw_shard.proofs.HandingOver.{after_coming, after_leaving, has_come, has_left, latest_come, latest_left, whole_come, whole_left}
 use Rattle.tw_shard.proofs.shard.Shard.hand_over_own.Goals as goal
+
+pub take_out-timeline-requires-clause-own : goal.take_out-timeline-requires-clause-own
+take_out-timeline-requires-clause-own c = ap (λ s. owns s c.args.router) c.self.view_is ∙ c.requires.own
+
+pub add-requires-clause-known : goal.add-requires-clause-known
+add-requires-clause-known c =
+    let r = c.args.router in
+    let own = c.self.invariant.whole.routers r (ap (λ s. owns s r) c.self.view_is ∙ c.requires.own) in
+    let same = ap (λ s. s.terms.case) c.to.view_is ∙ (c.requires.case ∙ ap (λ s. s.terms.case) (sym c.self.view_is)) in
+    subst (λ n. r < n) (sym (c.reserve_place.ensures.count ∙ (c.to.invariant.roster ∙ ap (λ case. case.net.nodes) same))) own.known
+
+pub add-requires-clause-new : goal.add-requires-clause-new
+add-requires-clause-new c = ap (λ rs. has rs c.args.router) c.reserve_place.ensures.routers ∙ (ap (λ s. owns s c.args.router) c.to.view_is ∙ c.requires.new)
 
 mine : (c : goal.After-count_coming) → owns (shard_of c.self.inside) c.args.router ≡ true
 mine c = ap (λ s. owns s c.args.router) c.self.view_is ∙ c.requires.own
