@@ -80,10 +80,7 @@ impl<'a> Shard<'a> {
 }
 
 /// Makes room for one more router, with its timeline.
-fn reserve_place(
-    roster: &mut Roster,
-    timelines: &mut Vec<Timeline<'_>>,
-) -> Result<(), AllocError>
+fn reserve_place(roster: &mut Roster, timelines: &mut Vec<Timeline<'_>>) -> Result<(), AllocError>
     ensures room { OnOk result (0 < roster.new.room) }
     ensures capacity { OnOk result (vec_len timelines.new < vec_capacity timelines.new) }
     ensures count { roster.new.count ≡ roster.old.count }
