@@ -21,11 +21,11 @@ use Rattle.tw_ordered.proofs.Ordered.{all-filter, all-from_in_order, insert_all_
 use Rattle.tw_ordered.specs.Queue.{AreFor}
 use Rattle.tw_shard.proofs.Laid.{IsLaid, laid, latest_laid, whole_laid}
 use Rattle.tw_shard.proofs.Openings.{owned_by, same_filter}
-use Rattle.tw_shard.specs.Cut.{IsShardAt, left_for, timeline_at}
+use Rattle.tw_shard.specs.Cut.{IsShardAt, timeline_at}
 use Rattle.tw_shard.specs.Inside.{HasHandledTo}
 use Rattle.tw_shard.specs.Past.{own_run}
 use Rattle.tw_shard.specs.Roster.{StandOnce, StandsInList, has}
-use Rattle.tw_shard.specs.Shard.{IsSoundShard, Shard, owns}
+use Rattle.tw_shard.specs.Shard.{IsSoundShard, Shard}
 use Rattle.tw_shard.specs.Timeline.{IsTimeline, Timeline, known, last_change_at, router_of}
 use Rattle.tw_sim.proofs.Closed.{log_closed}
 use Rattle.tw_sim.proofs.Counts.{in_filter, is_order}

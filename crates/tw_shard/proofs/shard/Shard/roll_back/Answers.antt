@@ -1,4 +1,4 @@
-use Rattle.std.proofs.Common.{ap, sym, ◌∙◌, subst, refl}
+use Rattle.std.proofs.Common.{ap, sym, ◌∙◌, subst}
 use Rattle.tw_shard.specs.Shard.{IsSameShare, shard_core}
 use Rattle.tw_shard.proofs.RollBack.{fewer_left, rolled_so_far, rolling_done, rolling_more, rolling_none}
 use Rattle.tw_shard.proofs.shard.Shard.roll_back.Goals as goal

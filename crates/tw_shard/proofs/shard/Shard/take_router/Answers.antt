@@ -1,5 +1,5 @@
-use Rattle.std.proofs.Common.{◌≡◌, true, ap, sym, ◌∙◌, subst}
-use Rattle.tw_shard.specs.Cut.{IsGone, IsRouterOf}
+use Rattle.std.proofs.Common.{◌≡◌, true, ap, ◌∙◌, subst}
+use Rattle.tw_shard.specs.Cut.{IsGone}
 use Rattle.tw_shard.specs.Inside.{shard_of}
 use Rattle.tw_shard.specs.Shard.{owns}
 use Rattle.tw_shard.proofs.HandingOver.{is_gone, latest_taken, whole_taken}

@@ -1,4 +1,4 @@
-use Rattle.std.proofs.Common.{◌≡◌, [], ap, sym, ◌∙◌, subst}
+use Rattle.std.proofs.Common.{[], ap, sym, ◌∙◌, subst}
 use Rattle.tw_shard.specs.Past.{Past, own_run}
 use Rattle.tw_shard.specs.Timeline.{IsTimeline}
 use Rattle.tw_shard.proofs.Cuts.{stands_at}

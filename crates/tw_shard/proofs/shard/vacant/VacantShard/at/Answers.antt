@@ -1,4 +1,4 @@
-use Rattle.std.proofs.Common.{◌≡◌, ◌<◌, ◌==◌, [], drop, filter, length, map, slice_index_or, take, ap, sym, ◌∙◌, subst, arith}
+use Rattle.std.proofs.Common.{◌<◌, ◌==◌, drop, filter, length, map, slice_index_or, take, ap, sym, ◌∙◌, subst, arith}
 use Rattle.std.specs.List.{range_with_len}
 use Rattle.tw_ordered.specs.Queue.{AreFor}
 use Rattle.tw_shard.specs.Cut.{timeline_at}

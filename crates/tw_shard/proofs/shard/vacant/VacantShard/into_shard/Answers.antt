@@ -1,8 +1,8 @@
-use Rattle.std.proofs.Common.{◌≡◌, ◌==◌, ℕ, filter, length, map, ap, sym, ◌∙◌, subst, refl}
+use Rattle.std.proofs.Common.{◌≡◌, ◌==◌, ℕ, filter, length, map, ap, ◌∙◌, subst, refl}
 use Rattle.std.specs.List.{range_with_len}
 use Rattle.tw_shard.specs.Cut.{IsShardAt, timeline_at}
 use Rattle.tw_shard.specs.Shard.{Shard}
-use Rattle.tw_shard.specs.Vacant.{Vacant, vacant_of}
+use Rattle.tw_shard.specs.Vacant.{Vacant}
 use Rattle.tw_shard.proofs.Cuts.{IsAt, all_come, latest_at, shard_at, whole_at}
 use Rattle.tw_shard.proofs.shard.vacant.VacantShard.into_shard.Goals as goal
 

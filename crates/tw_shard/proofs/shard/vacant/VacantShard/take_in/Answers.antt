@@ -1,9 +1,6 @@
-use Rattle.std.proofs.Common.{◌≡◌, ◌-◌, [], Some, drop, length, slice_get, vec_len, ap, sym, ◌∙◌, subst, arith}
+use Rattle.std.proofs.Common.{◌≡◌, ◌-◌, [], Some, drop, slice_get, vec_len, ap, sym, ◌∙◌, subst, arith}
 use Rattle.std.specs.List.{AllByRecursion}
-use Rattle.tw_event.specs.Order.{event_before, event_same}
 use Rattle.tw_shard.specs.Cut.{timeline_at}
-use Rattle.tw_shard.specs.Shard.{Shard}
-use Rattle.tw_shard.specs.Timeline.{Timeline}
 use Rattle.tw_shard.specs.Vacant.{Vacant, vacant_of}
 use Rattle.tw_shard.proofs.Cuts.{all_taken, one_come, one_less, one_longer}
 use Rattle.tw_shard.proofs.shard.vacant.VacantShard.take_in.Goals as goal
