@@ -1,5 +1,5 @@
 -- Undoing events one by one, and what a rollback leaves, as far as it has gone.
-use Rattle.std.proofs.Common.{◌≡◌, ℕ, suc, ◌<◌, ◌≤◌, ◌==◌, Bool, true, false, not, List, [], ◌∷◌, ◌++◌, Some, length, map, slice_get, refl, ap, sym, ◌∙◌, subst, inl, inr, arith}
+use Rattle.std.proofs.Common.{◌≡◌, ℕ, suc, ◌<◌, ◌≤◌, ◌==◌, Bool, true, false, not, List, [], ◌∷◌, ◌++◌, Option, Some, length, map, slice_get, refl, ap, sym, ◌∙◌, subst, inl, inr, arith}
 use Rattle.std.proofs.lemmas.Bool.{cases_Bool, cond-true, eq-eqb, lt-ltb}
 use Rattle.std.specs.List.{AllByRecursion}
 use Rattle.tw_core.specs.Machine.{Core}
@@ -28,16 +28,16 @@ module _ {S E : Type 0} (m : Simulation S E) where
   core_undone stop p e older = ap (λ h. record (process_core stop (undone_at m p e older)) { history = h }) (sym (same_put [] p.number (history p) (older ++ p.past)))
 
   -- a process whose parts have undone an event
-  pub undone_as_told : {M : Type 0} (p q : Handled M E) (pending left kept : List E) (flight reserved out : List (Signed E)) (bound : ℕ) (event : E) (before sent : List E)
-      → IsUndone m p.number p.past p.ahead q.ahead before sent → q ≡ record p { ahead = q.ahead } → Some event ≡ slice_get p.ahead 0 → left ≡ insert m event pending → before ≡ []
-      → out ≡ reserved ++ map antimessage sent → reserved ≡ flight → IsOneUndone m (joined p pending kept flight bound) (joined q left kept out bound)
-  undone_as_told p q pending left kept flight reserved out bound event before sent u same first put nothing away stay =
+  pub undone_as_told : {M : Type 0} (p q : Handled M E) (pending left kept : List E) (flight reserved out : List (Signed E)) (bound : ℕ) (o : Option E) (event : E) (before sent read : List E)
+      → IsUndone m p.number p.past p.ahead q.ahead before sent → q ≡ record p { ahead = q.ahead } → o ≡ Some event → o ≡ slice_get p.ahead 0 → left ≡ insert m event pending → before ≡ []
+      → read ≡ sent → out ≡ reserved ++ map antimessage read → reserved ≡ flight → IsOneUndone m (joined p pending kept flight bound) (joined q left kept out bound)
+  undone_as_told p q pending left kept flight reserved out bound o event before sent read u same some first put nothing reads away stay =
       let at : slice_get p.ahead 0 ≡ Some u.newest = ap (λ l. slice_get l 0) u.was in
       let is : event ≡ u.newest = cc in
       let sends = m.sends (state m p.number (q.ahead ++ p.past)) u.newest in
       let all : sent ≡ sends = u.sent ∙ ap (λ xs. xs ++ sends) nothing in
       let waits : left ≡ insert m u.newest pending = put ∙ ap (λ e. insert m e pending) is in
-      let flies : out ≡ flight ++ map antimessage sends = away ∙ (ap (λ xs. xs ++ map antimessage sent) stay ∙ ap (λ xs. flight ++ map antimessage xs) all) in (
+      let flies : out ≡ flight ++ map antimessage sends = away ∙ (ap (λ xs. xs ++ map antimessage read) stay ∙ ap (λ xs. flight ++ map antimessage xs) (reads ∙ all)) in (
         u.newest,
         q.ahead,
         u.was,
