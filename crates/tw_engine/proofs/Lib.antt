@@ -2,6 +2,8 @@ pub mod Below
 pub mod Comings
 pub mod Commits
 pub mod Machine
+pub mod Newest
 pub mod Openings
 pub mod Times
 pub mod Undoing
+pub mod Walks

@@ -1,5 +1,5 @@
 -- Undoing events one by one, and what a rollback leaves, as far as it has gone.
-use Rattle.std.proofs.Common.{◌≡◌, ℕ, suc, ◌<◌, ◌≤◌, ◌==◌, Bool, true, false, not, List, [], ◌∷◌, ◌++◌, Some, length, map, slice_get, refl, ap, sym, ◌∙◌, subst, inl, inr, arith}
+use Rattle.std.proofs.Common.{◌≡◌, ℕ, suc, ◌<◌, ◌≤◌, ◌==◌, Bool, true, false, not, List, [], ◌∷◌, ◌++◌, Option, Some, length, map, slice_get, refl, ap, sym, ◌∙◌, subst, inl, inr, arith}
 use Rattle.std.proofs.lemmas.Bool.{cases_Bool, cond-true, eq-eqb, lt-ltb}
 use Rattle.std.specs.List.{AllByRecursion}
 use Rattle.tw_core.specs.Machine.{Core}
@@ -15,9 +15,9 @@ use Rattle.tw_sim.specs.Simulation.{Simulation, IsLawful, state}
 use Rattle.tw_sim.specs.declared.machine.Signed.{Signed}
 
 -- where the newest event of a list passes a test, there is one
-pub some_goes : {E : Type 0} (test : E → Bool) (xs : List E) → has_newest test xs ≡ true → 0 < length xs
-some_goes test [] h = absurd (cc)
-some_goes test (x ∷ xs) h = omega arith
+pub some_goes : {E : Type 0} (test : E → Bool) (xs : List E) (goes : Bool) → goes ≡ has_newest test xs → goes ≡ true → 0 < length xs
+some_goes test [] goes is h = absurd (cc)
+some_goes test (x ∷ xs) goes is h = omega arith
 
 module _ {S E : Type 0} (m : Simulation S E) where
   -- ---- one event
@@ -28,16 +28,16 @@ module _ {S E : Type 0} (m : Simulation S E) where
   core_undone stop p e older = ap (λ h. record (process_core stop (undone_at m p e older)) { history = h }) (sym (same_put [] p.number (history p) (older ++ p.past)))
 
   -- a process whose parts have undone an event
-  pub undone_as_told : {M : Type 0} (p q : Handled M E) (pending left kept : List E) (flight reserved out : List (Signed E)) (bound : ℕ) (event : E) (before sent : List E)
-      → IsUndone m p.number p.past p.ahead q.ahead before sent → q ≡ record p { ahead = q.ahead } → Some event ≡ slice_get p.ahead 0 → left ≡ insert m event pending → before ≡ []
-      → out ≡ reserved ++ map antimessage sent → reserved ≡ flight → IsOneUndone m (joined p pending kept flight bound) (joined q left kept out bound)
-  undone_as_told p q pending left kept flight reserved out bound event before sent u same first put nothing away stay =
+  pub undone_as_told : {M : Type 0} (p q : Handled M E) (pending left kept : List E) (flight reserved out : List (Signed E)) (bound : ℕ) (o : Option E) (event : E) (before sent read : List E)
+      → IsUndone m p.number p.past p.ahead q.ahead before sent → q ≡ record p { ahead = q.ahead } → o ≡ Some event → o ≡ slice_get p.ahead 0 → left ≡ insert m event pending → before ≡ []
+      → read ≡ sent → out ≡ reserved ++ map antimessage read → reserved ≡ flight → IsOneUndone m (joined p pending kept flight bound) (joined q left kept out bound)
+  undone_as_told p q pending left kept flight reserved out bound o event before sent read u same some first put nothing reads away stay =
       let at : slice_get p.ahead 0 ≡ Some u.newest = ap (λ l. slice_get l 0) u.was in
       let is : event ≡ u.newest = cc in
       let sends = m.sends (state m p.number (q.ahead ++ p.past)) u.newest in
       let all : sent ≡ sends = u.sent ∙ ap (λ xs. xs ++ sends) nothing in
       let waits : left ≡ insert m u.newest pending = put ∙ ap (λ e. insert m e pending) is in
-      let flies : out ≡ flight ++ map antimessage sends = away ∙ (ap (λ xs. xs ++ map antimessage sent) stay ∙ ap (λ xs. flight ++ map antimessage xs) all) in (
+      let flies : out ≡ flight ++ map antimessage sends = away ∙ (ap (λ xs. xs ++ map antimessage read) stay ∙ ap (λ xs. flight ++ map antimessage xs) (reads ∙ all)) in (
         u.newest,
         q.ahead,
         u.was,
@@ -81,7 +81,7 @@ module _ {S E : Type 0} (m : Simulation S E) where
     pub rolling_same : (s t u : Logical M E) → IsRolling s t → u ≡ t → IsRolling s u
     rolling_same s t u far is = subst (IsRolling s) (sym is) far
 
-    pub rolling_more : (s t u : Logical M E) → IsRolling s t → has_newest (rolls m reach) t.ahead ≡ true → IsOneUndone m t u → IsRolling s u
+    rolling_more : (s t u : Logical M E) → IsRolling s t → has_newest (rolls m reach) t.ahead ≡ true → IsOneUndone m t u → IsRolling s u
     rolling_more s t u far must h =
         let e = h.0 in
         let older = h.1 in
@@ -134,9 +134,23 @@ module _ {S E : Type 0} (m : Simulation S E) where
     earlier (p ∷ past) bound later le all = ((let k = all.0 in omega arith), earlier past bound later le all.1)
 
     -- the rollback is whole
-    pub rolling_done : {M : Type 0} (reach : Reach E) (s t : Logical M E) → IsRolling reach s t → AllByRecursion (λ p. m.time p < s.bound) s.past → s.bound ≤ begins m reach
+    rolling_done : {M : Type 0} (reach : Reach E) (s t : Logical M E) → IsRolling reach s t → AllByRecursion (λ p. m.time p < s.bound) s.past → s.bound ≤ begins m reach
         → has_newest (rolls m reach) t.ahead ≡ false
         → (stop : ℕ) → process_core stop t ≡ after_undoing_while m (rolls m reach) s.number (history s) (process_core stop s)
     rolling_done reach s t far early late stops stop =
         let all : AllByRecursion (λ p. m.time p < begins m reach) t.past = subst (AllByRecursion (λ p. m.time p < begins m reach)) (sym far.share.past) (earlier s.past s.bound (begins m reach) late early) in
         sym (done_here reach t.ahead t.past s.number (process_core stop t) stops all) ∙ far.rest stop
+
+module _ {S E M : Type 0} (sim : M → Simulation S E) (reach : Reach E) (s t : Logical M E) (far : IsRolling (sim s.model) reach s t) (goes : Bool)
+    (is : goes ≡ has_newest (rolls (sim t.model) reach) t.ahead) where
+  told_there : has_newest (rolls (sim s.model) reach) t.ahead ≡ goes
+  told_there = ap (λ model. has_newest (rolls (sim model) reach) t.ahead) (sym far.share.model) ∙ sym is
+
+  -- one event more is undone
+  pub then_more : (u : Logical M E) → goes ≡ true → IsOneUndone (sim t.model) t u → IsRolling (sim s.model) reach s u
+  then_more u more one = rolling_more (sim s.model) reach s t u far (told_there ∙ more) (subst (λ model. IsOneUndone (sim model) t u) far.share.model one)
+
+  -- or all are
+  pub then_done : goes ≡ false → IsLawful (sim s.model) → AllByRecursion (λ p. (sim s.model).time p < s.bound) s.past → s.bound ≤ begins (sim s.model) reach
+      → (stop : ℕ) → process_core stop t ≡ after_undoing_while (sim s.model) (rolls (sim s.model) reach) s.number (history s) (process_core stop s)
+  then_done none law early late = rolling_done (sim s.model) law reach s t far early late (told_there ∙ none)

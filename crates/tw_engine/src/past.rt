@@ -99,7 +99,7 @@ impl<'a, M: ProcessModel> Past<'a, M> {
         ensures value { result ≡ slice_get self.now.ahead 0 }
         ensures own { IfSome result (λ e. (M.Event.parts.dst e ≡ self.now.number) × ((M.behaviour self.now.model).suits e ≡ true)) }
     {
-        let done = self.steps.last()?;
+        let done = last_of(&self.steps)?;
         Some(done.event)
     }
 
@@ -210,12 +210,11 @@ impl<'a, M: ProcessModel> Past<'a, M> {
     }
 }
 
-/// The last event of a list.
-fn last_of<E: Timed>(events: &[E]) -> Option<E>
-    ensures { result ≡ slice_get (reverse events.now) 0 }
+/// The last one of a list.
+fn last_of<T: Copy>(items: &[T]) -> Option<T>
+    ensures { result ≡ slice_get (reverse items.now) 0 }
 {
-    let last = events.last()?;
-    Some(*last)
+    items.last().copied()
 }
 
 /// Whether one of the steps is of this event.

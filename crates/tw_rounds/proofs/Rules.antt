@@ -4,15 +4,15 @@ use Rattle.std.proofs.lemmas.Bool.{cases_lt}
 use Rattle.std.proofs.lemmas.List.{get_or-replicate, length-replicate}
 use Rattle.std.specs.Option.{IsSomeAnd}
 use Rattle.tw_core.proofs.Counts.{antimessages-append, messages-append}
-use Rattle.tw_core.specs.Machine.{antimessages, messages, times_loose}
+use Rattle.tw_core.specs.Machine.{antimessages, messages, times_handled, times_loose}
 use Rattle.tw_rounds.proofs.Lists.{all_indexed}
 use Rattle.tw_rounds.specs.Ruled.{board_of}
 use Rattle.tw_rule.proofs.Visits.{may_stay, stands_from}
 use Rattle.tw_rule.specs.Board.{Board, IsBoard, times_among}
-use Rattle.tw_rule.specs.Place.{IsPlace, NoneLooseBefore, Place, PreservesPlace, whole}
+use Rattle.tw_rule.specs.Place.{IsPlace, NoneLooseBefore, Place, PreservesPlace, in_hand, whole}
 use Rattle.tw_rule.specs.Rule.{MayGive, Rule, Stands}
 use Rattle.tw_sim.specs.declared.machine.Signed.{Signed}
-use Rattle.tw_sim.specs.Simulation.{Simulation, IsLawful}
+use Rattle.tw_sim.specs.Simulation.{Simulation, IsLawful, times}
 
 -- no report is before the bound
 reported_from : (n b w : ℕ) → IfSome (slice_index_or (replicate n (Some b)) w None) (λ time. b ≤ time)
@@ -120,232 +120,139 @@ module _ {S E : Type 0} (m : Simulation S E) (law : IsLawful m) where
     pub loose_from : NoneLooseBefore m b p
     loose_from = stands_from m law self (board_of n flight b stop) p board stands
 
-    -- what a place has sent
-    sent_from : (e : E) → 0 < times_among m e p.outgoing → (b ≤ m.time e) × (m.suits e ≡ true)
-    sent_from e h = grind (arith, messages-append, antimessages-append, loose_from, stands.place.good.suit)
+    -- ---- what leaves a place, of what it was handed, has to send on or has sent
 
-    sent_board : IsBoard m (board_of n (flight ++ p.outgoing) b stop)
-    sent_board =
-        is_board n b stop (flight ++ p.outgoing) board.stop
-        (λ e h. grind (arith, messages-append, antimessages-append, cases_lt, sent_from, board.late))
-        (λ e h. grind (arith, messages-append, antimessages-append, cases_lt, sent_from, board.suit))
+    module _ (mail unsent outgoing out : List (Signed E)) (few : (e : E) → times_among m e mail ≤ times_among m e p.mail)
+        (parted : (e : E) → (messages m e (in_hand p) ≡ messages m e ((mail ++ unsent) ++ outgoing) + messages m e out)
+        × (antimessages m e (in_hand p) ≡ antimessages m e ((mail ++ unsent) ++ outgoing) + antimessages m e out)) where
+      abbrev left : Place E
+      left = record p { mail = mail; unsent = unsent; outgoing = outgoing }
 
-    sent_place : IsPlace m stop (record p { outgoing = [] })
-    sent_place = record {
-      good = grind (arith, messages-append, antimessages-append);
-      history = stands.place.history;
-      waiting = stands.place.waiting;
-      held = stands.place.held;
-      done = stands.place.done;
-      late = λ e h. stands.place.late e (grind (arith, messages-append, antimessages-append));
-      counted = stands.place.counted;
-    }
+      loose_left : (e : E) → times_loose m (whole 0 p) e ≡ times_loose m (whole 0 left) e + times_among m e out
+      loose_left e = (let k = parted e in let a = k.0 in let c = k.1 in omega arith)
 
-    -- it goes on its way
-    pub may_send : MayGive m self (board_of n flight b stop) p (board_of n (flight ++ p.outgoing) b stop) (record p { outgoing = [] })
-    may_send = record {
-      worker = refl;
-      steps = record { others = λ v other. refl; workers = refl; bound = omega arith; stop = refl; board = sent_board };
-      stands = record {
-        worker = stands.worker;
-        owns = stands.owns;
-        place = sent_place;
-        reported = λ e h. stands.reported e (grind (arith, messages-append, antimessages-append));
-        bound = stands.bound;
-      };
-      moved = λ e. grind (arith, messages-append, antimessages-append);
-      done = λ r. omega arith;
-    }
+      on_way_from : (e : E) → 0 < times_among m e (flight ++ out) → (b ≤ m.time e) × (m.suits e ≡ true)
+      on_way_from e h =
+          let k = loose_left e in
+          let a = messages-append m e flight out in
+          let c = antimessages-append m e flight out in
+          elim (cases_lt 0 (times_among m e out)) [
+            | inl l ↦ (loose_from e (omega arith), stands.place.good.suit e (omega arith))
+            | inr ge ↦ (let l : 0 < times_among m e flight = omega arith in (board.late e l, board.suit e l))
+          ]
 
-    -- ---- what a place has to send on
-
-    sent_on_from : (e : E) → 0 < times_among m e p.unsent → (b ≤ m.time e) × (m.suits e ≡ true)
-    sent_on_from e h = grind (arith, messages-append, antimessages-append, loose_from, stands.place.good.suit)
-
-    sent_on_board : IsBoard m (board_of n (flight ++ p.unsent) b stop)
-    sent_on_board =
-        is_board n b stop (flight ++ p.unsent) board.stop
-        (λ e h. grind (arith, messages-append, antimessages-append, cases_lt, sent_on_from, board.late))
-        (λ e h. grind (arith, messages-append, antimessages-append, cases_lt, sent_on_from, board.suit))
-
-    sent_on_place : IsPlace m stop (record p { unsent = [] })
-    sent_on_place = record {
-      good = grind (arith, messages-append, antimessages-append);
-      history = stands.place.history;
-      waiting = stands.place.waiting;
-      held = stands.place.held;
-      done = stands.place.done;
-      late = λ e h. stands.place.late e (grind (arith, messages-append, antimessages-append));
-      counted = stands.place.counted;
-    }
-
-    -- it goes on its way
-    pub may_send_on : MayGive m self (board_of n flight b stop) p (board_of n (flight ++ p.unsent) b stop) (record p { unsent = [] })
-    may_send_on = record {
-      worker = refl;
-      steps = record { others = λ v other. refl; workers = refl; bound = omega arith; stop = refl; board = sent_on_board };
-      stands = record {
-        worker = stands.worker;
-        owns = stands.owns;
-        place = sent_on_place;
-        reported = λ e h. stands.reported e (grind (arith, messages-append, antimessages-append));
-        bound = stands.bound;
-      };
-      moved = λ e. grind (arith, messages-append, antimessages-append);
-      done = λ r. omega arith;
-    }
-
-    module _ (rest out : List (Signed E)) (is : flight ≡ rest ++ out) where
-      aside : (e : E) → (messages m e flight ≡ messages m e rest + messages m e out) × (antimessages m e flight ≡ antimessages m e rest + antimessages m e out)
-      aside e = (ap (messages m e) is ∙ messages-append m e rest out, ap (antimessages m e) is ∙ antimessages-append m e rest out)
-
-      aside_from : (e : E) → 0 < times_among m e out → (b ≤ m.time e) × (m.suits e ≡ true)
-      aside_from e h = (
-        board.late e (let k = aside e in let a = k.0 in let c = k.1 in omega arith),
-        board.suit e (let k = aside e in let a = k.0 in let c = k.1 in omega arith),
-      )
-
-      abbrev kept_aside : Place E
-      kept_aside = record p { unsent = p.unsent ++ out }
-
-      loose_aside : (e : E) → times_loose m (whole 0 kept_aside) e ≡ times_loose m (whole 0 p) e + times_among m e out
-      loose_aside e = grind (arith, messages-append, antimessages-append)
-
-      late_aside : NoneLooseBefore m b kept_aside
-      late_aside e h = elim (cases_lt 0 (times_among m e out)) [
-        | inl l ↦ (aside_from e l).0
-        | inr ge ↦ loose_from e (let k = loose_aside e in omega arith)
-      ]
-
-      aside_place : IsPlace m stop kept_aside
-      aside_place = record {
-        good = grind (arith, messages-append, antimessages-append, cases_lt, aside_from);
-        history = stands.place.history;
-        waiting = stands.place.waiting;
-        held = stands.place.held;
-        done = stands.place.done;
-        late = λ e h. (let from = late_aside e h in let old = stands.bound in omega arith);
-        counted = stands.place.counted;
-      }
-
-      -- what is on its way is kept at a place, which has to send it on
-      pub may_keep : MayGive m self (board_of n flight b stop) p (board_of n rest b stop) kept_aside
-      may_keep = record {
-        worker = refl;
-        steps = record {
-          others = λ v other. refl;
-          workers = refl;
-          bound = omega arith;
-          stop = refl;
-          board = is_board n b stop rest board.stop (λ e h. board.late e (let k = aside e in let a = k.0 in let c = k.1 in omega arith)) (λ e h. board.suit e (let k = aside e in let a = k.0 in let c = k.1 in omega arith));
+      left_place : IsPlace m stop left
+      left_place = record {
+        good = record {
+          falling = stands.place.good.falling;
+          home = stands.place.good.home;
+          soon = stands.place.good.soon;
+          late = λ e h. omega arith;
+          ahead = stands.place.good.ahead;
+          alone = stands.place.good.alone;
+          suit = λ e h. stands.place.good.suit e (let k = loose_left e in omega arith);
         };
-        stands = stands_of n b stop rest kept_aside (let here = stands.worker in let len = length-replicate n (Some b) in omega arith) stands.owns aside_place late_aside stands.bound;
-        moved = λ e. (let k = aside e in let a = k.0 in let c = k.1 in grind (arith, messages-append, antimessages-append));
-        done = λ r. omega arith;
-      }
-
-    -- ---- what a place was handed
-
-    module _ (mail back : List (Signed E)) (is : p.mail ≡ mail ++ back) where
-      parted : (e : E) → (messages m e p.mail ≡ messages m e mail + messages m e back) × (antimessages m e p.mail ≡ antimessages m e mail + antimessages m e back)
-      parted e = (ap (messages m e) is ∙ messages-append m e mail back, ap (antimessages m e) is ∙ antimessages-append m e mail back)
-
-      abbrev without : Place E
-      without = record p { mail = mail }
-
-      loose_without : (e : E) → times_loose m (whole 0 p) e ≡ times_loose m (whole 0 without) e + times_among m e back
-      loose_without e = (let k = parted e in let a = k.0 in let c = k.1 in grind (arith, messages-append, antimessages-append))
-
-      back_from : (e : E) → 0 < times_among m e back → (b ≤ m.time e) × (m.suits e ≡ true)
-      back_from e h = (
-        loose_from e (let k = loose_without e in omega arith),
-        stands.place.good.suit e (let k = parted e in let a = k.0 in let c = k.1 in grind (arith, messages-append, antimessages-append)),
-      )
-
-      without_place : IsPlace m stop without
-      without_place = record {
-        good = grind (arith, messages-append, antimessages-append, parted);
         history = stands.place.history;
-        waiting = λ e h. stands.place.waiting e (let k = parted e in let a = k.0 in let c = k.1 in omega arith);
+        waiting = λ e h. stands.place.waiting e (let k = few e in omega arith);
         held = stands.place.held;
         done = stands.place.done;
-        late = λ e h. stands.place.late e (let k = loose_without e in omega arith);
+        late = λ e h. stands.place.late e (let k = loose_left e in omega arith);
         counted = stands.place.counted;
       }
 
-      -- it is on its way again
-      pub may_return : MayGive m self (board_of n flight b stop) p (board_of n (flight ++ back) b stop) without
-      may_return = record {
+      -- it goes on its way
+      pub may_leave : MayGive m self (board_of n flight b stop) p (board_of n (flight ++ out) b stop) left
+      may_leave = record {
         worker = refl;
         steps = record {
           others = λ v other. refl;
           workers = refl;
           bound = omega arith;
           stop = refl;
-          board = is_board n b stop (flight ++ back) board.stop
-              (λ e h. grind (arith, messages-append, antimessages-append, cases_lt, back_from, board.late))
-              (λ e h. grind (arith, messages-append, antimessages-append, cases_lt, back_from, board.suit));
+          board = is_board n b stop (flight ++ out) board.stop (λ e h. (on_way_from e h).0) (λ e h. (on_way_from e h).1);
         };
         stands = record {
           worker = stands.worker;
           owns = stands.owns;
-          place = without_place;
-          reported = λ e h. stands.reported e (let k = loose_without e in omega arith);
+          place = left_place;
+          reported = λ e h. stands.reported e (let k = loose_left e in omega arith);
           bound = stands.bound;
         };
-        moved = λ e. (let k = parted e in let a = k.0 in let c = k.1 in grind (arith, messages-append, antimessages-append));
+        moved = λ e. (let k = parted e in let a = k.0 in let c = k.1 in let f = messages-append m e flight out in let g = antimessages-append m e flight out in omega arith);
         done = λ r. omega arith;
       }
 
-    module _ (rest : List (Signed E)) (s : Signed E) (is : flight ≡ rest ++ s ∷ []) (home : p.owns (m.dst s.event) ≡ true) where
-      among : (e : E) → (messages m e flight ≡ messages m e rest + messages m e (s ∷ [])) × (antimessages m e flight ≡ antimessages m e rest + antimessages m e (s ∷ []))
-      among e = (ap (messages m e) is ∙ messages-append m e rest (s ∷ []), ap (antimessages m e) is ∙ antimessages-append m e rest (s ∷ []))
+    -- ---- what comes to a place from its way
 
-      alone : (e : E) → 0 < times_among m e (s ∷ []) → e ≡ s.event
-      alone e h = elim (among_cons e s [] h) [ inl is_it ↦ is_it | inr l ↦ absurd (omega arith) ]
+    module _ (rest out : List (Signed E)) (is : flight ≡ rest ++ out) (mail unsent : List (Signed E))
+        (waiting : (e : E) → 0 < times m e p.pending + times m e p.kept + times_among m e mail → p.owns (m.dst e) ≡ true)
+        (joined : (e : E) → (messages m e ((mail ++ unsent) ++ p.outgoing) ≡ messages m e (in_hand p) + messages m e out)
+        × (antimessages m e ((mail ++ unsent) ++ p.outgoing) ≡ antimessages m e (in_hand p) + antimessages m e out)) where
+      abbrev more : Place E
+      more = record p { mail = mail; unsent = unsent }
 
-      handed_from : (e : E) → 0 < times_among m e (s ∷ []) → (b ≤ m.time e) × (m.suits e ≡ true) × (p.owns (m.dst e) ≡ true)
-      handed_from e h = (
-        board.late e (let k = among e in let a = k.0 in let c = k.1 in omega arith),
-        board.suit e (let k = among e in let a = k.0 in let c = k.1 in omega arith),
-        subst (λ x. p.owns (m.dst x) ≡ true) (sym (alone e h)) home,
-      )
+      aside : (e : E) → (messages m e flight ≡ messages m e rest + messages m e out) × (antimessages m e flight ≡ antimessages m e rest + antimessages m e out)
+      aside e = (ap (messages m e) is ∙ messages-append m e rest out, ap (antimessages m e) is ∙ antimessages-append m e rest out)
 
-      abbrev handed : Place E
-      handed = record p { mail = p.mail ++ s ∷ [] }
+      rest_from : (e : E) → 0 < times_among m e rest + times_among m e out → (b ≤ m.time e) × (m.suits e ≡ true)
+      rest_from e h = (let k = aside e in let a = k.0 in let c = k.1 in let l : 0 < times_among m e flight = omega arith in (board.late e l, board.suit e l))
 
-      loose_handed : (e : E) → times_loose m (whole 0 handed) e ≡ times_loose m (whole 0 p) e + times_among m e (s ∷ [])
-      loose_handed e = grind (arith, messages-append, antimessages-append)
+      loose_more : (e : E) → times_loose m (whole 0 more) e ≡ times_loose m (whole 0 p) e + times_among m e out
+      loose_more e = (let k = joined e in let a = k.0 in let c = k.1 in omega arith)
 
-      late_handed : NoneLooseBefore m b handed
-      late_handed e h = elim (cases_lt 0 (times_among m e (s ∷ []))) [
-        | inl l ↦ (handed_from e l).0
-        | inr ge ↦ loose_from e (let k = loose_handed e in omega arith)
+      late_more : NoneLooseBefore m b more
+      late_more e h = elim (cases_lt 0 (times_among m e out)) [
+        | inl l ↦ (rest_from e (omega arith)).0
+        | inr ge ↦ loose_from e (let k = loose_more e in omega arith)
       ]
 
-      handed_place : IsPlace m stop handed
-      handed_place = record {
-        good = grind (arith, messages-append, antimessages-append, cases_lt, handed_from);
+      suit_more : (e : E) → 0 < times_handled m (whole 0 more) e + times_loose m (whole 0 more) e → m.suits e ≡ true
+      suit_more e h = elim (cases_lt 0 (times_among m e out)) [
+        | inl l ↦ (rest_from e (omega arith)).1
+        | inr ge ↦ stands.place.good.suit e (let k = loose_more e in omega arith)
+      ]
+
+      more_place : IsPlace m stop more
+      more_place = record {
+        good = record {
+          falling = stands.place.good.falling;
+          home = stands.place.good.home;
+          soon = stands.place.good.soon;
+          late = λ e h. omega arith;
+          ahead = stands.place.good.ahead;
+          alone = stands.place.good.alone;
+          suit = suit_more;
+        };
         history = stands.place.history;
-        waiting = λ e h. grind (arith, messages-append, antimessages-append, cases_lt, handed_from, stands.place.waiting);
+        waiting = waiting;
         held = stands.place.held;
         done = stands.place.done;
-        late = λ e h. (let from = late_handed e h in let old = stands.bound in omega arith);
+        late = λ e h. (let from = late_more e h in let old = stands.bound in omega arith);
         counted = stands.place.counted;
       }
 
-      -- the last message is handed to its receiver
-      pub may_hand : MayGive m self (board_of n flight b stop) p (board_of n rest b stop) handed
-      may_hand = record {
+      -- it is kept there
+      pub may_come : MayGive m self (board_of n flight b stop) p (board_of n rest b stop) more
+      may_come = record {
         worker = refl;
         steps = record {
           others = λ v other. refl;
           workers = refl;
           bound = omega arith;
           stop = refl;
-          board = is_board n b stop rest board.stop (λ e h. board.late e (let k = among e in let a = k.0 in let c = k.1 in omega arith)) (λ e h. board.suit e (let k = among e in let a = k.0 in let c = k.1 in omega arith));
+          board = is_board n b stop rest board.stop (λ e h. (rest_from e (omega arith)).0) (λ e h. (rest_from e (omega arith)).1);
         };
-        stands = stands_of n b stop rest handed (let here = stands.worker in let len = length-replicate n (Some b) in omega arith) stands.owns handed_place late_handed stands.bound;
-        moved = λ e. (let k = among e in let a = k.0 in let c = k.1 in grind (arith, messages-append, antimessages-append));
+        stands = stands_of n b stop rest more (let here = stands.worker in let len = length-replicate n (Some b) in omega arith) stands.owns more_place late_more stands.bound;
+        moved = λ e. (let k = joined e in let a = k.0 in let c = k.1 in let l = aside e in let d = l.0 in let f = l.1 in omega arith);
         done = λ r. omega arith;
       }
+
+    -- a message waits there for its receiver
+    pub waits_handed : (s : Signed E) → p.owns (m.dst s.event) ≡ true → (e : E) → 0 < times m e p.pending + times m e p.kept + times_among m e (p.mail ++ s ∷ []) → p.owns (m.dst e) ≡ true
+    waits_handed s home e h =
+        let a = messages-append m e p.mail (s ∷ []) in
+        let c = antimessages-append m e p.mail (s ∷ []) in
+        elim (cases_lt 0 (times_among m e (s ∷ []))) [
+          | inl l ↦ elim (among_cons e s [] l) [ inl is_it ↦ subst (λ x. p.owns (m.dst x) ≡ true) (sym is_it) home | inr none ↦ absurd (omega arith) ]
+          | inr ge ↦ stands.place.waiting e (omega arith)
+        ]

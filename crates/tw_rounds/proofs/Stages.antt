@@ -6,7 +6,7 @@ use Rattle.tw_core.proofs.Counts.{antimessages-append, messages-append}
 use Rattle.tw_core.specs.Machine.{antimessages, messages}
 use Rattle.tw_rounds.proofs.Lists.{get_set, map_get, map_set, set_each, set_twice, there_at}
 use Rattle.tw_rounds.proofs.Members.{earliest-le, earliest-there, keeps_same}
-use Rattle.tw_rounds.proofs.Rules.{among_self, known_stands, loose_from, may_hand, may_keep, may_return, may_send, may_send_on, may_turn, rule_raised, rule_reordered, self}
+use Rattle.tw_rounds.proofs.Rules.{among_self, known_stands, loose_from, may_come, may_leave, may_turn, rule_raised, rule_reordered, self, waits_handed}
 use Rattle.tw_rounds.specs.Members.{IsFullBefore, IsSound, Keeps, KeepsTo, Mailed, handed, place_of, raised, sent_on, taken_out}
 use Rattle.tw_rounds.specs.Ruled.{AreRuled, IsSomeFullBefore, board_of}
 use Rattle.tw_rounds.specs.Times.{earliest}
@@ -79,26 +79,33 @@ module _ {S M E : Type 0} (m : Simulation S E) where
     -- what one has to send on is on its way
     pub one_sent_on : (i : ℕ) (x : Mailed M E) → slice_get xs i ≡ Some x → AreRuled m model stop bound (flight ++ x.outbox) (set xs i (sent_on x))
     one_sent_on i x at =
-        one_given (flight ++ x.outbox) i x (sent_on x) at refl refl (may_send_on m ruled.law (length xs) bound stop flight (place_of x) ruled.rule.board (stands_at i x at))
+        one_given (flight ++ x.outbox) i x (sent_on x) at refl refl
+        (may_leave m ruled.law (length xs) bound stop flight (place_of x) ruled.rule.board (stands_at i x at) x.mail [] x.process.flight x.outbox
+        (λ e. omega arith) (λ e. (grind (arith, messages-append), grind (arith, antimessages-append))))
 
     -- one has to send on what is on its way
     pub one_kept_aside : (rest out : List (Signed E)) → flight ≡ rest ++ out → (i : ℕ) (x : Mailed M E) → slice_get xs i ≡ Some x
         → AreRuled m model stop bound rest (set xs i (record x { outbox = x.outbox ++ out }))
     one_kept_aside rest out is i x at =
         one_given rest i x (record x { outbox = x.outbox ++ out }) at refl refl
-        (may_keep m ruled.law (length xs) bound stop flight (place_of x) ruled.rule.board (stands_at i x at) rest out is)
+        (may_come m ruled.law (length xs) bound stop flight (place_of x) ruled.rule.board (stands_at i x at) rest out is x.mail (x.outbox ++ out)
+        (stands_at i x at).place.waiting (λ e. (grind (arith, messages-append), grind (arith, antimessages-append))))
 
     -- what one was handed is on its way again
     pub one_returned : (mail back : List (Signed E)) (i : ℕ) (x : Mailed M E) → slice_get xs i ≡ Some x → x.mail ≡ mail ++ back
         → AreRuled m model stop bound (flight ++ back) (set xs i (record x { mail = mail }))
     one_returned mail back i x at is =
         one_given (flight ++ back) i x (record x { mail = mail }) at refl refl
-        (may_return m ruled.law (length xs) bound stop flight (place_of x) ruled.rule.board (stands_at i x at) mail back is)
+        (may_leave m ruled.law (length xs) bound stop flight (place_of x) ruled.rule.board (stands_at i x at) mail x.outbox x.process.flight back
+        (λ e. (let a = ap (messages m e) is in let c = ap (antimessages m e) is in grind (arith, messages-append, antimessages-append)))
+        (λ e. (let a = ap (messages m e) is in let c = ap (antimessages m e) is in (grind (arith, messages-append), grind (arith, antimessages-append)))))
 
     -- what one has sent is on its way
     pub one_sent : (i : ℕ) (x : Mailed M E) → slice_get xs i ≡ Some x → AreRuled m model stop bound (flight ++ x.process.flight) (set xs i (taken_out x))
     one_sent i x at =
-        one_given (flight ++ x.process.flight) i x (taken_out x) at refl refl (may_send m ruled.law (length xs) bound stop flight (place_of x) ruled.rule.board (stands_at i x at))
+        one_given (flight ++ x.process.flight) i x (taken_out x) at refl refl
+        (may_leave m ruled.law (length xs) bound stop flight (place_of x) ruled.rule.board (stands_at i x at) x.mail x.outbox [] x.process.flight
+        (λ e. omega arith) (λ e. (grind (arith, messages-append), grind (arith, antimessages-append))))
 
     module _ (rest : List (Signed E)) (s : Signed E) (is : flight ≡ rest ++ s ∷ []) where
       -- the last message is for a process that is there
@@ -115,8 +122,10 @@ module _ {S M E : Type 0} (m : Simulation S E) where
       pub one_handed : (x : Mailed M E) → slice_get xs (m.dst s.event) ≡ Some x → AreRuled m model stop bound rest (set xs (m.dst s.event) (record x { mail = x.mail ++ s ∷ [] }))
       one_handed x at =
           one_given rest (m.dst s.event) x (record x { mail = x.mail ++ s ∷ [] }) at refl refl
-          (may_hand m ruled.law (length xs) bound stop flight (place_of x) ruled.rule.board (stands_at (m.dst s.event) x at) rest s is
+          (may_come m ruled.law (length xs) bound stop flight (place_of x) ruled.rule.board (stands_at (m.dst s.event) x at) rest (s ∷ []) is (x.mail ++ s ∷ []) x.outbox
+          (waits_handed m ruled.law (length xs) bound stop flight (place_of x) ruled.rule.board (stands_at (m.dst s.event) x at) s
           (eq-eqb (m.dst s.event) x.process.number (sym (ruled.each (m.dst s.event) x at).0)))
+          (λ e. (grind (arith, messages-append), grind (arith, antimessages-append))))
 
     -- a process has the last message on its way to send on
     pub kept_ruled : (rest : List (Signed E)) (s : Signed E) → flight ≡ rest ++ s ∷ [] → (n : ℕ) (ys : List (Mailed M E)) → n < length xs

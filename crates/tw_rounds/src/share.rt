@@ -3,8 +3,9 @@
 //! What is sent within the share is received at once, so that nothing of it comes late. What is for others stays until
 //! the end of the round.
 
-ghost use Rattle.std.specs.Prelude.{◌≡◌, ◌+◌, ◌<◌, ◌++◌, ◌∷◌, [], List, Some, OnErr, OnOk, length, slice_get};
+ghost use Rattle.std.specs.Prelude.{ℕ, ◌≡◌, ◌+◌, ◌<◌, ◌++◌, ◌∷◌, [], List, Some, OnErr, OnOk, length, slice_get};
 ghost use Rattle.tw_rounds.specs.Shares.{GoesOn, HasTurned, IsShare, IsLast, KeepsRule, TellsLeast, on_way};
+ghost use Rattle.tw_rounds.specs.declared.turning.Round.{Round as ARound};
 
 use crate::least::least_of;
 use crate::limits::MOST_MESSAGES;
@@ -23,20 +24,16 @@ pub(crate) fn take_turn<M: ProcessModel>(members: &mut [Member<'_, M>], start: u
     requires share { IsShare M.Event.parts M.Event.cmp M.behaviour round start members.old [] }
     ensures { HasTurned M.Event.parts M.Event.cmp M.behaviour round start members.old members.new }
 {
-    let mut sent = take_sent(members, start, round);
+    let mut sent = take_sent(members);
     let went = go_on(members, start, round, &mut sent);
-    keep_sent(members, start, round, sent, went.is_err());
-    tell_least(members, start, round);
+    keep_sent(members, sent, went.is_err());
+    tell_least(members, round.stop);
 }
 
 /// What the share had to send on is on its way.
-fn take_sent<M: ProcessModel>(
-    members: &mut [Member<'_, M>],
-    start: usize,
-    round: Round,
-) -> Sent<M::Event>
+fn take_sent<M: ProcessModel>(members: &mut [Member<'_, M>]) -> Sent<M::Event>
     requires some { 0 < length members.old }
-    ensures rule { KeepsRule M.Event.parts M.Event.cmp M.behaviour round start members.old [] members.new (on_way result) }
+    ensures rule { (round : ARound) (start : ℕ) → KeepsRule M.Event.parts M.Event.cmp M.behaviour round start members.old [] members.new (on_way result) }
     ensures empty { (x : _) → slice_get members.new 0 ≡ Some x → x.outbox ≡ [] }
 {
     members[0].take_sent()
@@ -45,25 +42,24 @@ fn take_sent<M: ProcessModel>(
 /// The share has all that is on its way to send on. Want of memory is noted.
 fn keep_sent<M: ProcessModel>(
     members: &mut [Member<'_, M>],
-    start: usize,
-    round: Round,
     sent: Sent<M::Event>,
     wants_memory: bool,
 )
     requires some { 0 < length members.old }
     requires empty { (x : _) → slice_get members.old 0 ≡ Some x → x.outbox ≡ [] }
-    ensures { KeepsRule M.Event.parts M.Event.cmp M.behaviour round start members.old (on_way sent) members.new [] }
+    ensures { (round : ARound) (start : ℕ) → KeepsRule M.Event.parts M.Event.cmp M.behaviour round start members.old (on_way sent) members.new [] }
 {
     members[0].end_round(sent, wants_memory);
 }
 
-/// The first one tells a time that is not beyond those of all that waits in the share or is to be sent on.
-fn tell_least<M: ProcessModel>(members: &mut [Member<'_, M>], start: usize, round: Round)
+/// The first one tells a time that is not beyond the stop, in ticks, nor beyond those of all that waits in the share or is
+/// to be sent on.
+fn tell_least<M: ProcessModel>(members: &mut [Member<'_, M>], stop: u64)
     requires some { 0 < length members.old }
-    ensures rule { KeepsRule M.Event.parts M.Event.cmp M.behaviour round start members.old [] members.new [] }
+    ensures rule { (round : ARound) (start : ℕ) → KeepsRule M.Event.parts M.Event.cmp M.behaviour round start members.old [] members.new [] }
     ensures told { TellsLeast M.Event.parts M.Event.cmp M.behaviour members.new }
 {
-    let least = least_of(members, round.stop);
+    let least = least_of(members, stop);
     members[0].put_least(least);
 }
 
@@ -97,7 +93,7 @@ fn begin_all<M: ProcessModel>(
     for place in 0..members.len() {
         begin_at(members, start, round, place)?;
         schedule.set(place, members[place].next_time());
-        send_at(members, start, round, place, sent)?;
+        send_at(members, place, sent)?;
     }
     Ok(())
 }
@@ -119,13 +115,11 @@ fn begin_at<M: ProcessModel>(
 /// What the process at this place has sent is on its way.
 fn send_at<M: ProcessModel>(
     members: &mut [Member<'_, M>],
-    start: usize,
-    round: Round,
     place: usize,
     sent: &mut Sent<M::Event>,
 ) -> Result<(), AllocError>
     requires { place < length members.old }
-    ensures { GoesOn M.Event.parts M.Event.cmp M.behaviour round start members.old (on_way sent.old) members.new (on_way sent.new) }
+    ensures { (round : ARound) (start : ℕ) → GoesOn M.Event.parts M.Event.cmp M.behaviour round start members.old (on_way sent.old) members.new (on_way sent.new) }
 {
     sent.counts.add_sent(members[place].process().flight());
     members[place].send_out(&mut sent.near)
@@ -167,7 +161,7 @@ fn handle_next<M: ProcessModel>(
         return Ok(());
     }
     advance_at(members, start, round, place, sent, schedule)?;
-    send_at(members, start, round, place, sent)?;
+    send_at(members, place, sent)?;
     settle(members, start, round, sent, schedule)
 }
 
@@ -249,24 +243,21 @@ fn deal<M: ProcessModel>(
 {
     let number = message.event.dst() as usize;
     if number < start || number - start >= members.len() {
-        return pass_on(members, start, round, message, sent);
+        return pass_on::<M>(message, sent);
     }
     let place = number - start;
     receive_last(members, start, round, place, message, sent)?;
     schedule.set(place, members[place].next_time());
-    send_at(members, start, round, place, sent)
+    send_at(members, place, sent)
 }
 
 /// The last message that was not looked at is for another share.
 fn pass_on<M: ProcessModel>(
-    members: &mut [Member<'_, M>],
-    start: usize,
-    round: Round,
     message: Signed<M::Event>,
     sent: &mut Sent<M::Event>,
 ) -> Result<(), AllocError>
     requires last { IsLast message sent.old.near.items }
-    ensures { GoesOn M.Event.parts M.Event.cmp M.behaviour round start members.old (on_way sent.old) members.new (on_way sent.new) }
+    ensures { (round : ARound) (start : ℕ) (xs : _) → GoesOn M.Event.parts M.Event.cmp M.behaviour round start xs (on_way sent.old) xs (on_way sent.new) }
 {
     sent.far.push(message)?;
     let _ = sent.near.pop();

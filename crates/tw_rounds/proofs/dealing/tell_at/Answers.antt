@@ -1,5 +1,5 @@
-use Rattle.std.proofs.Common.{◌≡◌, ◌+◌, ◌≤◌, Err, Some, get_or, length, refl, ap, sym, ◌∙◌, subst, arith}
-use Rattle.std.proofs.lemmas.Option.{slice_get_read}
+use Rattle.std.proofs.Common.{◌≡◌, ◌+◌, ◌≤◌, Err, get_or, ap, sym, ◌∙◌, subst, arith}
+use Rattle.std.proofs.lemmas.Option.{slice_get-get_or}
 use Rattle.std.proofs.lemmas.Result.{err_from_is_err_and}
 use Rattle.tw_process.specs.Behaviour.{simulation_of}
 use Rattle.tw_process.specs.declared.refused.Refused.{Refused}
@@ -12,7 +12,7 @@ handle_next-requires g c =
     let xs = c.args.members.now in
     let read = c.index-members-number.result in
     let x = get_or xs c.args.number read in
-    let at = slice_get_read xs (length xs) c.args.number read refl c.requires.here c.index-members-number.is ∙ ap (λ z. Some z) c.index-members-number.is in
+    let at = slice_get-get_or xs c.args.number read c.requires.here in
     let r = c.requires.ruled in
     let same = (r.5.each c.args.number x at).1 in
     subst (λ md. c.args.bound + 1 ≤ (g.M.ProcessModel.behaviour md).latest) (sym same) (let early = r.3 in omega arith)
@@ -23,7 +23,7 @@ returns-in_err-handle_next-clause-ruled g c = λ model stop flight lt ruled.
     let xs = c.args.members.now in
     let read = c.index-members-number.result in
     let x = get_or xs c.args.number read in
-    let at = slice_get_read xs (length xs) c.args.number read refl c.requires.here c.index-members-number.is ∙ ap (λ z. Some z) c.index-members-number.is in
+    let at = slice_get-get_or xs c.args.number read c.requires.here in
     told_ruled sim model stop c.args.bound flight xs ruled c.args.number x c.handle_next.new.self at lt c.handle_next.ensures.kept
 
 pub returns-in_err-handle_next-clause-full : goal.returns-in_err-handle_next-clause-full
@@ -32,7 +32,7 @@ returns-in_err-handle_next-clause-full g c = λ model stop flight lt ruled told.
     let xs = c.args.members.now in
     let read = c.index-members-number.result in
     let x = get_or xs c.args.number read in
-    let at = slice_get_read xs (length xs) c.args.number read refl c.requires.here c.index-members-number.is ∙ ap (λ z. Some z) c.index-members-number.is in
+    let at = slice_get-get_or xs c.args.number read c.requires.here in
     let p = err_from_is_err_and c.from_residual.result c.from_residual.ensures.1 in
     let is_full : ◌≡◌ {A = Refused} p.0 CounterFull = cc (p.1, told) in
     told_full sim model stop c.args.bound flight xs ruled c.args.number x c.handle_next.new.self at (c.in_err-handle_next.ensures.full (ap (λ x. Err x) (sym p.2 ∙ is_full)))
@@ -43,5 +43,5 @@ returns-clause-ruled g c = λ model stop flight lt ruled.
     let xs = c.args.members.now in
     let read = c.index-members-number.result in
     let x = get_or xs c.args.number read in
-    let at = slice_get_read xs (length xs) c.args.number read refl c.requires.here c.index-members-number.is ∙ ap (λ z. Some z) c.index-members-number.is in
+    let at = slice_get-get_or xs c.args.number read c.requires.here in
     told_ruled sim model stop c.args.bound flight xs ruled c.args.number x c.handle_next.new.self at lt c.handle_next.ensures.kept

@@ -1,5 +1,5 @@
-use Rattle.std.proofs.Common.{◌≡◌, Some, get_or, length, set, refl, ap, ◌∙◌}
-use Rattle.std.proofs.lemmas.Option.{slice_get_read}
+use Rattle.std.proofs.Common.{◌≡◌, get_or, set, ap, ◌∙◌}
+use Rattle.std.proofs.lemmas.Option.{slice_get-get_or}
 use Rattle.tw_process.specs.Behaviour.{simulation_of}
 use Rattle.tw_rounds.proofs.Lists.{on_ok}
 use Rattle.tw_rounds.specs.Members.{Mailed, awaiting}
@@ -9,14 +9,14 @@ pub add_opening-requires-clause-own : goal.add_opening-requires-clause-own
 add_opening-requires-clause-own g c =
     let xs = c.args.members.now in
     let read = c.index-members-number.result in
-    let at = slice_get_read xs (length xs) c.args.number read refl c.requires.here c.index-members-number.is ∙ ap (λ z. Some z) c.index-members-number.is in
+    let at = slice_get-get_or xs c.args.number read c.requires.here in
     c.requires.own (get_or xs c.args.number read) at
 
 pub add_opening-requires-clause-suit : goal.add_opening-requires-clause-suit
 add_opening-requires-clause-suit g c =
     let xs = c.args.members.now in
     let read = c.index-members-number.result in
-    let at = slice_get_read xs (length xs) c.args.number read refl c.requires.here c.index-members-number.is ∙ ap (λ z. Some z) c.index-members-number.is in
+    let at = slice_get-get_or xs c.args.number read c.requires.here in
     c.requires.suit (get_or xs c.args.number read) at
 
 pub returns : goal.returns
@@ -24,7 +24,7 @@ returns g c =
     let sim = λ (model : g.row.M.Denot). simulation_of g.M.Event.Timed.parts g.M.Event.Ord.cmp (g.M.ProcessModel.behaviour model) in
     let xs = c.args.members.now in
     let read = c.index-members-number.result in
-    let here = slice_get_read xs (length xs) c.args.number read refl c.requires.here c.index-members-number.is ∙ ap (λ z. Some z) c.index-members-number.is in
+    let here = slice_get-get_or xs c.args.number read c.requires.here in
     on_ok c.add_opening.result (λ became x at. (
     let same : get_or xs c.args.number read ≡ x = cc (here, at) in
     ap (set xs c.args.number) (became ∙ ap (λ (z : Mailed _ _). awaiting (sim z.process.model) c.args.event z) same))) c.add_opening.ensures.ok

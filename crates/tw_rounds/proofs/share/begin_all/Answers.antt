@@ -18,10 +18,10 @@ pub returns-in_err-send_at : goal.returns-in_err-send_at
 returns-in_err-send_at g c =
     let f = on_way c.loop-place.sent in
     let begun = goes_both g.M.Event.Timed.parts g.M.Event.Ord.cmp g.M.ProcessModel.behaviour c.args.round c.args.start c.args.members.now c.loop-place.members c.begin_at.new.members (on_way c.args.sent.now) f f c.loop-place.invariant (c.begin_at.ensures f) in
-    goes_both g.M.Event.Timed.parts g.M.Event.Ord.cmp g.M.ProcessModel.behaviour c.args.round c.args.start c.args.members.now c.begin_at.new.members c.send_at.new.members (on_way c.args.sent.now) f (on_way c.send_at.new.sent) begun c.send_at.ensures
+    goes_both g.M.Event.Timed.parts g.M.Event.Ord.cmp g.M.ProcessModel.behaviour c.args.round c.args.start c.args.members.now c.begin_at.new.members c.send_at.new.members (on_way c.args.sent.now) f (on_way c.send_at.new.sent) begun (c.send_at.ensures c.args.round c.args.start)
 
 pub loop-place-preserved : goal.loop-place-preserved
 loop-place-preserved g c =
     let f = on_way c.loop-place.sent in
     let begun = goes_both g.M.Event.Timed.parts g.M.Event.Ord.cmp g.M.ProcessModel.behaviour c.args.round c.args.start c.args.members.now c.loop-place.members c.begin_at.new.members (on_way c.args.sent.now) f f c.loop-place.invariant (c.begin_at.ensures f) in
-    goes_both g.M.Event.Timed.parts g.M.Event.Ord.cmp g.M.ProcessModel.behaviour c.args.round c.args.start c.args.members.now c.begin_at.new.members c.send_at.new.members (on_way c.args.sent.now) f (on_way c.send_at.new.sent) begun c.send_at.ensures
+    goes_both g.M.Event.Timed.parts g.M.Event.Ord.cmp g.M.ProcessModel.behaviour c.args.round c.args.start c.args.members.now c.begin_at.new.members c.send_at.new.members (on_way c.args.sent.now) f (on_way c.send_at.new.sent) begun (c.send_at.ensures c.args.round c.args.start)

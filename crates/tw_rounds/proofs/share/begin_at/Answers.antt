@@ -1,5 +1,5 @@
-use Rattle.std.proofs.Common.{Some, get_or, length, refl, ap, ◌∙◌, arith}
-use Rattle.std.proofs.lemmas.Option.{slice_get_read}
+use Rattle.std.proofs.Common.{get_or, arith}
+use Rattle.std.proofs.lemmas.Option.{slice_get-get_or}
 use Rattle.tw_rounds.proofs.Shares.{begun, may_begin}
 use Rattle.tw_rounds.proofs.share.begin_at.Goals as goal
 
@@ -8,7 +8,7 @@ returns g c = λ sent.
     let xs = c.args.members.now in
     let read = c.index-members-place.result in
     let x = get_or xs c.args.place read in
-    let at = slice_get_read xs (length xs) c.args.place read refl c.requires.here c.index-members-place.is ∙ ap (λ z. Some z) c.index-members-place.is in
+    let at = slice_get-get_or xs c.args.place read c.requires.here in
     let sound = may_begin g.M.Event.Timed.parts g.M.Event.Ord.cmp g.M.ProcessModel.behaviour c.args.round c.args.start xs c.args.place x at c.requires.share.0 c.requires.share.1 in
     let keeps = c.begin_round.ensures.kept c.args.round.stop (omega arith) sound in
     begun g.M.Event.Timed.parts g.M.Event.Ord.cmp g.M.ProcessModel.behaviour c.args.round c.args.start xs c.args.place x at sent c.begin_round.new.self keeps.outbox c.begin_round.ensures.kept

@@ -1,5 +1,5 @@
-use Rattle.std.proofs.Common.{◌≡◌, [], Some, get_or, length, set, refl, ap, ◌∙◌, sym, subst}
-use Rattle.std.proofs.lemmas.Option.{slice_get_read}
+use Rattle.std.proofs.Common.{◌≡◌, [], get_or, set, ap, ◌∙◌, sym, subst}
+use Rattle.std.proofs.lemmas.Option.{slice_get-get_or}
 use Rattle.tw_rounds.proofs.Lists.{get_set, set_each}
 use Rattle.tw_process.specs.Behaviour.{simulation_of}
 use Rattle.tw_rounds.proofs.Shares.{told}
@@ -10,13 +10,13 @@ use Rattle.tw_sim.specs.Simulation.{IsLawful}
 use Rattle.tw_rounds.proofs.share.tell_least.Goals as goal
 
 pub returns-clause-rule : goal.returns-clause-rule
-returns-clause-rule g c =
+returns-clause-rule g c = λ round start.
     let xs = c.args.members.now in
     let read = c.index-members-0.result in
     let x = get_or xs 0 read in
-    let at = slice_get_read xs (length xs) 0 read refl c.requires.some c.index-members-0.is ∙ ap (λ z. Some z) c.index-members-0.is in
-    subst (λ y. KeepsRule g.M.Event.Timed.parts g.M.Event.Ord.cmp g.M.ProcessModel.behaviour c.args.round c.args.start xs [] (set xs 0 y) []) (sym c.put_least.ensures)
-    (told g.M.Event.Timed.parts g.M.Event.Ord.cmp g.M.ProcessModel.behaviour c.args.round c.args.start xs 0 x at c.least_of-least.result)
+    let at = slice_get-get_or xs 0 read c.requires.some in
+    subst (λ y. KeepsRule g.M.Event.Timed.parts g.M.Event.Ord.cmp g.M.ProcessModel.behaviour round start xs [] (set xs 0 y) []) (sym c.put_least.ensures)
+    (told g.M.Event.Timed.parts g.M.Event.Ord.cmp g.M.ProcessModel.behaviour round start xs 0 x at c.least_of-least.result)
 
 pub returns-clause-told : goal.returns-clause-told
 returns-clause-told g c = λ first there.
@@ -26,7 +26,7 @@ returns-clause-told g c = λ first there.
     let x = get_or xs 0 read in
     let t = c.least_of-least.result in
     let y = c.put_least.new.self in
-    let at = slice_get_read xs (length xs) 0 read refl c.requires.some c.index-members-0.is ∙ ap (λ z. Some z) c.index-members-0.is in
+    let at = slice_get-get_or xs 0 read c.requires.some in
     let put = get_set xs 0 x y at in
     let same : first ≡ y = cc in
     let least : first.least ≡ t = ap (λ z. z.least) (same ∙ c.put_least.ensures) in

@@ -1,0 +1,5 @@
+use Rattle.std.proofs.Common.{ap}
+use Rattle.tw_engine.proofs.past.Past.number.Goals as goal
+
+pub returns : goal.returns
+returns g c = ap (λ p. p.number) c.self.view_is
