@@ -106,6 +106,7 @@ fn turn_from<W: Turn + Send, R: Threads + Sync>(
 }
 
 /// One share takes its turn in a thread of its own, and this thread goes on with the others.
+// The two closures capture alike, which a proof of functions that call one another asks for: so 1 has a name.
 #[cycle(turns)]
 fn turn_both<W: Turn + Send, R: Threads + Sync>(
     rt: &R,
