@@ -68,21 +68,21 @@ const LONG_BY_ALL: u64 = 2_000_000;
 const LONG_BY_ALL_TIMES: u64 = 200;
 
 /// What so many events took.
-#[derive(Clone, Copy, PartialEq, Eq, Debug)]
+#[derive(Clone, Copy)]
 struct Pace {
     events: u64,
     micros: u64,
 }
 
 /// A piece of a run, and what it took.
-#[derive(Clone, Copy, PartialEq, Eq, Debug)]
+#[derive(Clone, Copy)]
 struct Piece {
     ticks: u64,
     micros: u64,
 }
 
 /// How long a thread went on, and how long of that it waited for a processor.
-#[derive(Clone, Copy, PartialEq, Eq, Debug)]
+#[derive(Clone, Copy)]
 struct Stint {
     micros: u64,
     waited: u64,
@@ -112,7 +112,7 @@ impl Stint {
 }
 
 /// How far a run has come by one thread, lap by lap.
-#[derive(Clone, Copy, PartialEq, Eq, Debug)]
+#[derive(Clone, Copy)]
 pub struct Alone {
     /// Where it stands.
     pub ticks: u64,
@@ -217,7 +217,7 @@ impl Alone {
 }
 
 /// How far a run has come by several workers, stretch by stretch.
-#[derive(Clone, Copy, PartialEq, Eq, Debug)]
+#[derive(Clone, Copy)]
 pub struct Course {
     /// Where it stands.
     pub ticks: u64,

@@ -6,3 +6,4 @@ pub mod Shares
 pub mod Stages
 pub mod Turns
 pub mod Warps
+pub mod Chunks

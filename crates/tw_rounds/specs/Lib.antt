@@ -3,3 +3,4 @@ pub mod Ruled
 pub mod Shares
 pub mod Times
 pub mod Warp
+pub mod Turns

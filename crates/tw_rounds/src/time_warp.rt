@@ -10,11 +10,10 @@ ghost use Rattle.tw_sim.specs.Simulation.{state};
 use crate::counts::Counts;
 use crate::dealing::{count_round, deal, refused_in, send_all, tell};
 use crate::least::{least_of, least_told};
-use crate::limits::WORTH_THREADS;
 use crate::member::{Member, least_among};
 use crate::opening::open_all;
 use crate::turning::{Round, turn_all};
-use crate::window::{limit_of, next_window, share_of, threads_for};
+use crate::window::{Pace, limit_of, share_of};
 use std::alloc::{AllocError, Global};
 use std::marker::Model;
 use std::sync::Wait;
@@ -36,11 +35,10 @@ pub struct TimeWarp<'a, M: ProcessModel> {
     flight: Vec<Signed<M::Event>>,
     bound: u64,
     stop: u64,
-    window: u64,
-    // Of the last round; before the first one, as if several threads were worth it.
+    pace: Pace,
+    // Of the last round.
     threads: usize,
     share: usize,
-    handled: u64,
     counts: Counts,
 }
 
@@ -71,10 +69,9 @@ impl<'a, M: ProcessModel> TimeWarp<'a, M> {
             flight: Vec::new(alloc),
             bound: 0,
             stop: 0,
-            window: model.lookahead(),
+            pace: Pace::new(model.lookahead()),
             threads: 1,
             share: usize::MAX,
-            handled: WORTH_THREADS,
             counts: Counts::default(),
         })
     }
@@ -167,7 +164,7 @@ impl<'a, M: ProcessModel> TimeWarp<'a, M> {
     fn share_out(&mut self, workers: u32)
         ensures { self.new ≡ self.old }
     {
-        self.threads = threads_for(workers, self.handled);
+        self.threads = self.pace.threads(workers);
         self.share = share_of(self.members.len(), self.threads);
     }
 
@@ -179,17 +176,14 @@ impl<'a, M: ProcessModel> TimeWarp<'a, M> {
         deal(&mut self.members, self.share, &mut self.flight)
     }
 
-    /// What was done in a round is counted, and the window fits it.
+    /// What was done in a round is counted, and the pace of the next one fits it.
     fn count(&mut self)
         ensures { self.new ≡ self.old }
     {
         let round = count_round(&self.members, self.share);
-        self.handled = round.handled;
         self.counts.add(round);
-        if self.threads > 1 {
-            let lookahead = self.model.lookahead();
-            self.window = next_window(self.window, lookahead, round);
-        }
+        let lookahead = self.model.lookahead();
+        self.pace = self.pace.after(self.threads, lookahead, round);
     }
 
     /// Tells why it does not go on, where one of its processes is the cause.
@@ -296,7 +290,7 @@ where
         let round = Round {
             alloc: *self.flight.allocator(),
             bound: self.bound,
-            limit: limit_of(self.threads, self.bound, self.window, self.stop),
+            limit: limit_of(self.threads, self.bound, self.pace.window, self.stop),
             stop: self.stop,
         };
         turn_all(rt, &mut self.members, self.share, round);

@@ -1,14 +1,14 @@
 //! All processes take their turns, each share of them in a thread.
 
 ghost use Rattle.std.specs.Prelude.{ℕ, ◌≡◌, ◌*◌, ◌<◌, List, [], length};
-ghost use Rattle.std.specs.Fork.{IsChunk, slice_chunk};
+ghost use Rattle.std.specs.Fork.{slice_chunk};
+ghost use Rattle.tw_rounds.specs.Turns.{HaveTurned, MayTurn};
 ghost use denote.Param.Send.{IsSend, IsSync};
 ghost use Rattle.tw_rounds.specs.declared.turning.Round.{Round as ARound};
 
 use crate::member::Member;
 use crate::share::take_turn;
 use std::alloc::Global;
-use std::thread;
 use std::thread::{Threads, join_mut};
 use tw_process::ProcessModel;
 
@@ -52,6 +52,9 @@ impl<'a, M: ProcessModel> Turn for Member<'a, M> {
 }
 
 /// Each share, of so many, takes its turn, in a thread of its own where one can be made.
+///
+/// The thread that makes these takes no turn itself: a new thread often begins on the processor of the one that made it,
+/// and would wait for the end of that one's turn.
 pub(crate) fn turn_all<W: Turn + Send, R: Threads + Sync>(
     rt: &R,
     all: &mut [W],
@@ -59,33 +62,75 @@ pub(crate) fn turn_all<W: Turn + Send, R: Threads + Sync>(
     round: Round,
 )
     requires size { 0 < size }
-    requires may { (start : ℕ) (share : List W) → IsChunk all.old size start share → W.may_turn round start share }
+    requires may { (n : ℕ) → n * size < length all.old → W.may_turn round (n * size) (slice_chunk all.old size n) }
     ensures count { length all.new ≡ length all.old }
     ensures turned { (n : ℕ) → n * size < length all.old → W.has_turned round (n * size) (slice_chunk all.old size n) (slice_chunk all.new size n) }
 {
-    let part = |start: usize, share: &mut [W]|
-        requires { IsSync R.row × IsSend W.row × (0 < length share.now) × W.may_turn round start share.now }
-        ensures { W.has_turned round start share.entry.now share.exit.now }
-    { turn_apart(rt, share, start, round) };
-    thread::for_each_chunk_mut(rt, all, size, &part);
+    turn_from(rt, round, 0, size, usize::MAX, all);
 }
 
-/// A share takes its turn in a thread of its own, for which this one waits. A new thread often begins on the processor of
-/// the one that made it: were that one to take a turn itself, the new one would wait for its end.
-fn turn_apart<W: Turn + Send, R: Threads + Sync>(
+/// At most so many shares, from this number on, take their turns: one in this thread, and each of several in a thread of
+/// its own, but for the last that may be.
+#[cycle(turns)]
+fn turn_from<W: Turn + Send, R: Threads + Sync>(
     rt: &R,
-    share: &mut [W],
-    start: usize,
     round: Round,
+    start: usize,
+    size: usize,
+    count: usize,
+    shares: &mut [W],
 )
-    requires some { 0 < length share.old }
-    requires may { W.may_turn round start share.old }
-    ensures { W.has_turned round start share.old share.new }
+    requires { MayTurn W.may_turn round start size count shares.old }
+    ensures { HaveTurned W.has_turned round start size shares.old shares.new }
 {
-    let mut turn = ||
-        requires { IsSend W.row × (0 < length share.now) × W.may_turn round start share.now }
-        ensures { W.has_turned round start share.entry.now share.exit.now }
-    { W::turn(share, start, round) };
-    let mut nothing = || {};
-    join_mut(rt, &mut turn, &mut nothing);
+    if shares.is_empty() {
+        return;
+    }
+    if count == 1 {
+        W::turn(shares, start, round);
+        return;
+    }
+    let first = size.min(shares.len());
+    let (share, others) = shares.split_at_mut(first);
+    turn_both(
+        rt,
+        round,
+        size,
+        start,
+        1,
+        share,
+        start + first,
+        count - 1,
+        others,
+    );
+}
+
+/// One share takes its turn in a thread of its own, and this thread goes on with the others.
+// The two closures capture alike, which a proof of functions that call one another asks for: so 1 has a name.
+#[cycle(turns)]
+fn turn_both<W: Turn + Send, R: Threads + Sync>(
+    rt: &R,
+    round: Round,
+    size: usize,
+    start: usize,
+    one: usize,
+    share: &mut [W],
+    next: usize,
+    count: usize,
+    others: &mut [W],
+)
+    requires share { MayTurn W.may_turn round start size one share.old }
+    requires others { MayTurn W.may_turn round next size count others.old }
+    ensures share { HaveTurned W.has_turned round start size share.old share.new }
+    ensures others { HaveTurned W.has_turned round next size others.old others.new }
+{
+    let mut front = ||
+        requires { IsSync R.row × IsSend W.row × MayTurn W.may_turn round start size one share.now }
+        ensures { HaveTurned W.has_turned round start size share.entry.now share.exit.now }
+    { turn_from(rt, round, start, size, one, share) };
+    let mut back = ||
+        requires { IsSync R.row × IsSend W.row × MayTurn W.may_turn round next size count others.now }
+        ensures { HaveTurned W.has_turned round next size others.entry.now others.exit.now }
+    { turn_from(rt, round, next, size, count, others) };
+    join_mut(rt, &mut front, &mut back);
 }

@@ -1,7 +1,9 @@
-//! Runs of the parallel engine as tests: its states are those of the sequential engine, by one thread and by several.
+//! Runs of the engines for any model as tests: their states are the same, by one thread and by several.
 #![tactic(auto)]
 
 #[cfg(test)]
 mod epidemics;
+#[cfg(test)]
+mod routers;
 #[cfg(test)]
 mod runs;

@@ -4,8 +4,6 @@
 //! `router_at` and `router_in` the router as that run left it.
 #![tactic(auto)]
 
-#[cfg(test)]
-mod rows;
 mod run;
 mod threads;
 

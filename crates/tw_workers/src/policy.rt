@@ -63,7 +63,7 @@ pub(crate) fn longest_nap(routers: usize) -> u64 {
 }
 
 /// How many events were handled, and how many undone.
-#[derive(Clone, Copy, Debug)]
+#[derive(Clone, Copy)]
 pub(crate) struct Work {
     pub(crate) handled: u64,
     pub(crate) undone: u64,
@@ -84,7 +84,7 @@ impl Work {
 }
 
 /// What was done in some turns.
-#[derive(Clone, Copy, Debug)]
+#[derive(Clone, Copy)]
 struct Span {
     work: Work,
     // In which something was handled.
@@ -126,7 +126,7 @@ impl Span {
 }
 
 /// How a worker paces itself.
-#[derive(Clone, Copy, Debug)]
+#[derive(Clone, Copy)]
 pub(crate) struct Pace {
     batch: u32,
     window: u64,

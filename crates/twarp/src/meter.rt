@@ -21,7 +21,7 @@ const PIECE: u64 = 400_000_000;
 const GROWTH: u64 = 8;
 
 /// What is shown of a run while it goes on.
-#[derive(Clone, Copy, PartialEq, Eq, Debug)]
+#[derive(Clone, Copy, PartialEq, Eq)]
 pub(crate) enum Shown {
     Nothing,
     /// A line that is written over again and again, and is gone when the run has ended.

@@ -51,7 +51,7 @@ impl From<Refused> for Cause {
 }
 
 /// How the program ended where its answer was written.
-#[derive(Clone, Copy, PartialEq, Eq, Debug)]
+#[derive(Clone, Copy, PartialEq, Eq)]
 pub(crate) enum Status {
     /// What was asked was done.
     Done,

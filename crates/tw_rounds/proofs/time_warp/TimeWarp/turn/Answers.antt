@@ -1,4 +1,4 @@
-use Rattle.std.proofs.Common.{◌≡◌, ◌*◌, ◌≤◌, Some, slice_get, sym, subst, ap, ◌∙◌, arith}
+use Rattle.std.proofs.Common.{◌≡◌, ◌*◌, ◌≤◌, Some, refl, slice_get, sym, subst, ap, ◌∙◌, arith}
 use Rattle.tw_process.specs.Behaviour.{simulation_of}
 use Rattle.tw_rounds.proofs.Lists.{rewritten}
 use Rattle.tw_rounds.proofs.Members.{earliest-le}
@@ -13,12 +13,12 @@ use Rattle.tw_sim.specs.Simulation.{IsLawful}
 use Rattle.tw_rounds.proofs.time_warp.TimeWarp.turn.Goals as goal
 
 pub turn_all-requires-clause-may : goal.turn_all-requires-clause-may
-turn_all-requires-clause-may g c = λ lifetimes formed start share chunk.
+turn_all-requires-clause-may g c = λ lifetimes formed n l.
     let a = c.self.inside in
     let sim = λ (model : g.row.M.Denot). simulation_of g.M.Event.Timed.parts g.M.Event.Ord.cmp (g.M.ProcessModel.behaviour model) in
     let ruled = subst (AreRuled (sim a.model.now) a.model.now a.stop a.bound a.flight.items) (sym c.deref_mut.ensures.value) c.self.invariant.2 in
-    chunk_shares g.M.Event.Timed.parts g.M.Event.Ord.cmp g.M.ProcessModel.behaviour (record { alloc = _; bound = a.bound; limit = c.limit_of.result; stop = a.stop }) a.model.now a.flight.items start a.share _ share
-    c.limit_of.ensures.stop c.self.invariant.1 (let l = chunk.in_bounds in omega arith) chunk.value ruled
+    chunk_shares g.M.Event.Timed.parts g.M.Event.Ord.cmp g.M.ProcessModel.behaviour (record { alloc = _; bound = a.bound; limit = c.limit_of.result; stop = a.stop }) a.model.now a.flight.items (n * a.share) a.share _ _
+    c.limit_of.ensures.stop c.self.invariant.1 (omega arith) refl ruled
 
 pub invariant_of-self : goal.invariant_of-self
 invariant_of-self g c =

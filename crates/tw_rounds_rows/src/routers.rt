@@ -1,10 +1,8 @@
-//! A case that is small enough to follow by hand.
+//! A case of routing that is small enough to follow by hand, by both engines.
 
 ghost use Rattle.std.specs.Prelude.{◌≤◌};
 ghost use Rattle.tw_model.specs.declared.limits.TheConstants.{LATEST};
 
-use crate::run::{router_at, run_case};
-use crate::threads::{router_in, run_case_by};
 use std::alloc::Global;
 use std::sync::Wait;
 use std::thread::Threads;
@@ -13,6 +11,7 @@ use tw_instance::{Case, Instance};
 use tw_model::{Counters, Link, PermittedPath, RouterEnd};
 use tw_rounds::TimeWarp;
 use tw_routing::Routing;
+use tw_routing_run::{router_at, router_in, run_case, run_case_by};
 use tw_sequential::Sequential;
 
 /// The origin and router 1, with a link that takes 3 ticks and the path of router 1 over it.
