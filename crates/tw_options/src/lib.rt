@@ -25,6 +25,7 @@ mod flag;
 mod help;
 mod number;
 mod page;
+mod subcommand;
 
 use command::twarp;
 use command_line::command_line_of;
@@ -35,6 +36,7 @@ pub use number::NumberOption;
 pub use page::Page;
 use std::alloc::Global;
 use std::convert::AsStr;
+pub use subcommand::{CommandOption, Subcommand};
 
 /// What the words of a command line ask for; the first word is the program's name.
 ///
