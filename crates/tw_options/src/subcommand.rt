@@ -1,14 +1,14 @@
 //! The commands of a program, each with its options.
 
 ghost use Rattle.std.specs.Prelude.{IfOk, ◌≡◌, false};
-ghost use Rattle.clap.specs.Words.{app_of, with_rule, with_subcommand};
+ghost use Rattle.clap.specs.Words.{app_of, rule_of, with_subcommand};
 ghost use Rattle.clap.specs.declared.builder.command.Command.TheViews.{out-Command as fields_of};
 ghost use Rattle.tw_options.specs.App.{rule_of_option, subcommand_app};
 
 use crate::flag::Flag;
 use crate::number::NumberOption;
 use crate::page::Page;
-use clap::Command;
+use clap::{Arg, Command};
 use std::alloc::{AllocError, Global};
 
 /// An option of a command.
@@ -30,15 +30,13 @@ pub struct Subcommand {
 }
 
 impl CommandOption {
-    /// The command with this option behind its other ones.
-    fn add_to<'a>(self, command: Command<'a>, alloc: Global) -> Result<Command<'a>, AllocError>
-        requires { (fields_of command).has_globals ≡ false }
-        ensures app { IfOk result (λ added. app_of added ≡ with_rule (app_of command.entry) (rule_of_option self)) }
-        ensures local { IfOk result (λ added. (fields_of added).has_globals ≡ false) }
+    fn arg<'a>(self, alloc: Global) -> Arg<'a>
+        ensures rule { rule_of result ≡ rule_of_option self }
+        ensures local { result.global ≡ false }
     {
         match self {
-            CommandOption::Number(number) => number.add_to(command, alloc),
-            CommandOption::Flag(flag) => flag.add_to(command, alloc),
+            CommandOption::Number(number) => number.arg(alloc),
+            CommandOption::Flag(flag) => flag.arg(alloc),
         }
     }
 }
@@ -61,7 +59,7 @@ impl Subcommand {
     {
         let mut command = self.page.command(alloc);
         for option in self.options {
-            command = option.add_to(command, alloc)?;
+            command = command.arg(option.arg(alloc))?;
         }
         Ok(command)
     }
