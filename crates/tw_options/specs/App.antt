@@ -1,9 +1,12 @@
 -- The commands and options of `twarp`, in the words of the parser's contracts. Own.
-use Rattle.std.specs.Prelude.{◌-◌, ℕ, Bool, Some, true, false, codes}
+use Rattle.std.specs.Prelude.{◌-◌, ℕ, Bool, List, [], ◌∷◌, Some, true, false, codes}
 use Rattle.clap.specs.Words.{App, Rule, Text, new_app, new_rule, with_rule, with_subcommand}
 use Rattle.clap.specs.declared.builder.action.ArgAction.TheVariants.{Set, SetTrue}
 use Rattle.clap.specs.declared.builder.value_parser.ValueParser.TheVariants as vp
 use Rattle.tw_model.specs.declared.limits.TheConstants.{LATEST, MOST_ROUTERS, MOST_WORKERS}
+use Rattle.tw_options.specs.declared.subcommand.CommandOption.{CommandOption}
+use Rattle.tw_options.specs.declared.subcommand.CommandOption.TheVariants as option
+use Rattle.tw_options.specs.declared.subcommand.Subcommand.{Subcommand}
 use Rattle.tw_options.specs.declared.number.TheConstants.{MOST_BATCH}
 
 -- an option `--id`, which may be required, that takes a number from least to most
@@ -103,6 +106,25 @@ upgrade_app = new_app (codes "upgrade")
 -- a program that asks for a subcommand, and has a version that it tells at `--version` and `-V`
 abbrev pub program_app : Text → App
 program_app name = let a = new_app name in record a { top = record a.top { subcommand_required = true; has_version = true } }
+
+-- the rule of an option
+abbrev pub rule_of_option : CommandOption → Rule
+rule_of_option (option.Number o) = number_rule o.id.now o.is_required o.least o.most
+rule_of_option (option.Flag o) = flag_rule o.id.now
+
+-- a command with these options behind its other ones
+abbrev pub with_options : App → List CommandOption → App
+with_options command [] = command
+with_options command (o ∷ options) = with_options (with_rule command (rule_of_option o)) options
+
+-- a command of a program
+abbrev pub subcommand_app : Subcommand → App
+subcommand_app s = with_options (new_app s.page.name.now) s.options.now
+
+-- a program with these commands behind its other ones
+abbrev pub with_subcommands : App → List Subcommand → App
+with_subcommands program [] = program
+with_subcommands program (s ∷ subcommands) = with_subcommands (with_subcommand program (subcommand_app s).top) subcommands
 
 -- `twarp` alone
 abbrev pub top_app : App

@@ -1,14 +1,13 @@
 //! The flags of a command line.
 
-ghost use Rattle.std.specs.Prelude.{IfOk, ◌≡◌, false};
-ghost use Rattle.clap.specs.Words.{app_of, found_of, rows_of, rule_of, with_rule};
-ghost use Rattle.clap.specs.declared.builder.command.Command.TheViews.{out-Command as fields_of};
+ghost use Rattle.std.specs.Prelude.{◌≡◌, false};
+ghost use Rattle.clap.specs.Words.{found_of, rows_of, rule_of};
 ghost use Rattle.tw_options.specs.App.{flag_rule};
 ghost use Rattle.tw_options.specs.Says.{Sets};
 
 use crate::help;
-use clap::{Arg, ArgAction, ArgMatches, Command};
-use std::alloc::{AllocError, Global};
+use clap::{Arg, ArgAction, ArgMatches};
+use std::alloc::Global;
 
 /// A flag `--id`, which may be left out.
 #[derive(Clone, Copy)]
@@ -58,16 +57,8 @@ pub(crate) const STATS: Flag = Flag {
 };
 
 impl Flag {
-    /// The command with this flag behind its other options.
-    pub fn add_to<'a>(self, command: Command<'a>, alloc: Global) -> Result<Command<'a>, AllocError>
-        requires { (fields_of command).has_globals ≡ false }
-        ensures app { IfOk result (λ added. app_of added ≡ with_rule (app_of command.entry) (flag_rule self.id.now)) }
-        ensures local { IfOk result (λ added. (fields_of added).has_globals ≡ false) }
-    {
-        command.arg(self.arg(alloc))
-    }
-
-    fn arg<'a>(self, alloc: Global) -> Arg<'a>
+    /// This flag, for the parser.
+    pub(crate) fn arg<'a>(self, alloc: Global) -> Arg<'a>
         ensures rule { rule_of result ≡ flag_rule self.id.now }
         ensures local { result.global ≡ false }
     {

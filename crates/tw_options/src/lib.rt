@@ -3,7 +3,7 @@
 //! clap parses the words; the answer is a `CommandLine`, which is plain data, or a
 //! `CommandLineFault`. Contracts see the words as a list of texts, and the command that clap is
 //! given as the `App` that `specs/App` writes out; `specs/Says` says which command line a match is.
-//! What the command line of `twarp-policy` shares stands here too: `NumberOption`, `Flag`, `Page`, and the lemmas of `proofs`.
+//! What the other programs share stands here too: `Page`, `Subcommand`, `CommandOption`, `NumberOption`, `Flag`, and the lemmas of `proofs`.
 //!
 //! Proved: a command line is what clap matched, each of its numbers being the one given, in its
 //! range; it is answered only where clap finds no fault; a fault is of a kind that the words give
@@ -25,6 +25,7 @@ mod flag;
 mod help;
 mod number;
 mod page;
+mod subcommand;
 
 use command::twarp;
 use command_line::command_line_of;
@@ -35,6 +36,7 @@ pub use number::NumberOption;
 pub use page::Page;
 use std::alloc::Global;
 use std::convert::AsStr;
+pub use subcommand::{CommandOption, Subcommand};
 
 /// What the words of a command line ask for; the first word is the program's name.
 ///

@@ -1,16 +1,15 @@
 //! The numbers of a command line, each with its range.
 
-ghost use Rattle.std.specs.Prelude.{◌≡◌, ◌≤◌, IfOk, false};
-ghost use Rattle.clap.specs.Words.{app_of, found_of, rows_of, rule_of, with_rule};
-ghost use Rattle.clap.specs.declared.builder.command.Command.TheViews.{out-Command as fields_of};
+ghost use Rattle.std.specs.Prelude.{◌≡◌, ◌≤◌, false};
+ghost use Rattle.clap.specs.Words.{found_of, rows_of, rule_of};
 ghost use Rattle.tw_options.specs.App.{number_rule};
 ghost use Rattle.tw_options.specs.Fit.{HasNumber, HasNumberIfGiven};
 ghost use Rattle.tw_options.specs.Says.{IsNumberGiven, IsNumberIfGiven, IsNumberOr};
 
 use crate::help;
 use clap::builder::ValueParser;
-use clap::{Arg, ArgAction, ArgMatches, Command};
-use std::alloc::{AllocError, Global};
+use clap::{Arg, ArgAction, ArgMatches};
+use std::alloc::Global;
 use tw_model::limits::{LATEST, MOST_ROUTERS, MOST_WORKERS};
 
 /// How many events a worker handles at most between two meetings.
@@ -97,17 +96,8 @@ pub(crate) const BATCH: NumberOption = NumberOption {
 };
 
 impl NumberOption {
-    /// The command with this option behind its other ones.
-    pub fn add_to<'a>(self, command: Command<'a>, alloc: Global) -> Result<Command<'a>, AllocError>
-        requires { (fields_of command).has_globals ≡ false }
-        ensures app { IfOk result (λ added.
-            app_of added ≡ with_rule (app_of command.entry) (number_rule self.id.now self.is_required self.least self.most)) }
-        ensures local { IfOk result (λ added. (fields_of added).has_globals ≡ false) }
-    {
-        command.arg(self.arg(alloc))
-    }
-
-    fn arg<'a>(self, alloc: Global) -> Arg<'a>
+    /// This option, for the parser.
+    pub(crate) fn arg<'a>(self, alloc: Global) -> Arg<'a>
         ensures rule { rule_of result ≡ number_rule self.id.now self.is_required self.least self.most }
         ensures local { result.global ≡ false }
     {

@@ -1,12 +1,13 @@
 //! What a command is called, and what its help says of it.
 
-ghost use Rattle.std.specs.Prelude.{◌≡◌, false};
+ghost use Rattle.std.specs.Prelude.{IfOk, ◌≡◌, false};
 ghost use Rattle.clap.specs.Words.{app_of, new_app};
 ghost use Rattle.clap.specs.declared.builder.command.Command.TheViews.{out-Command as fields_of};
-ghost use Rattle.tw_options.specs.App.{program_app};
+ghost use Rattle.tw_options.specs.App.{program_app, with_subcommands};
 
+use crate::subcommand::Subcommand;
 use clap::Command;
-use std::alloc::Global;
+use std::alloc::{AllocError, Global};
 
 /// The name of a command, and the words of its help.
 #[derive(Clone, Copy)]
@@ -41,5 +42,21 @@ impl Page {
         self.command(alloc)
             .version(version)
             .subcommand_required(true)
+    }
+
+    /// The command of a whole program with these subcommands.
+    pub fn program_with<'a>(
+        self,
+        alloc: Global,
+        version: &'static str,
+        subcommands: &[Subcommand],
+    ) -> Result<Command<'a>, AllocError>
+        ensures { IfOk result (λ program. app_of program ≡ with_subcommands (program_app self.name.now) subcommands.now) }
+    {
+        let mut program = self.program(alloc, version);
+        for subcommand in subcommands {
+            program = subcommand.add_to(program, alloc)?;
+        }
+        Ok(program)
     }
 }

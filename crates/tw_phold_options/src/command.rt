@@ -1,15 +1,15 @@
 //! The command line, as clap is told of it.
 
-ghost use Rattle.std.specs.Prelude.{IfOk, ◌≡◌, false};
+ghost use Rattle.std.specs.Prelude.{IfOk, ◌≡◌};
 ghost use Rattle.clap.specs.Words.{app_of};
-ghost use Rattle.clap.specs.declared.builder.command.Command.TheViews.{out-Command as fields_of};
-ghost use Rattle.tw_phold_options.specs.App.{asking_app, measured_app, phold_app, run_app, seq_app};
+ghost use Rattle.tw_options.specs.App.{subcommand_app};
+ghost use Rattle.tw_phold_options.specs.App.{phold_app, run_app, seq_app};
 
 use crate::help;
 use crate::numbers::{LONGEST, LOOKAHEAD, POPULATION, PROCESSES, REMOTE, SEED, STOP, WORKERS};
 use clap::Command;
 use std::alloc::{AllocError, Global};
-use tw_options::{Flag, Page};
+use tw_options::{CommandOption, Flag, Subcommand};
 
 pub(crate) const STATS: Flag = Flag {
     id: "stats",
@@ -21,46 +21,48 @@ pub(crate) const STATS: Flag = Flag {
 pub(crate) fn twarp_phold<'a>(alloc: Global) -> Result<Command<'a>, AllocError>
     ensures { IfOk result (λ command. app_of command ≡ phold_app) }
 {
+    let subcommands = [seq(), run()];
     // The file of the program has another name before it is installed.
     help::PHOLD
-        .program(alloc, help::VERSION)
-        .bin_name(help::PHOLD.name)?
-        .subcommand(seq(alloc)?)?
-        .subcommand(run(alloc)?)
+        .program_with(alloc, help::VERSION, &subcommands)?
+        .bin_name(help::PHOLD.name)
 }
 
-fn seq<'a>(alloc: Global) -> Result<Command<'a>, AllocError>
-    ensures app { IfOk result (λ command. app_of command ≡ seq_app) }
-    ensures local { IfOk result (λ command. (fields_of command).has_globals ≡ false) }
+fn seq() -> Subcommand
+    ensures { subcommand_app result ≡ seq_app }
 {
-    STATS.add_to(asking(help::SEQ, alloc)?, alloc)
+    static OPTIONS: [CommandOption; 8] = [
+        CommandOption::Number(PROCESSES),
+        CommandOption::Number(POPULATION),
+        CommandOption::Number(LOOKAHEAD),
+        CommandOption::Number(LONGEST),
+        CommandOption::Number(REMOTE),
+        CommandOption::Number(SEED),
+        CommandOption::Number(STOP),
+        CommandOption::Flag(STATS),
+    ];
+    Subcommand {
+        page: help::SEQ,
+        options: &OPTIONS,
+    }
 }
 
-fn run<'a>(alloc: Global) -> Result<Command<'a>, AllocError>
-    ensures app { IfOk result (λ command. app_of command ≡ run_app) }
-    ensures local { IfOk result (λ command. (fields_of command).has_globals ≡ false) }
+fn run() -> Subcommand
+    ensures { subcommand_app result ≡ run_app }
 {
-    let command = WORKERS.add_to(asking(help::RUN, alloc)?, alloc)?;
-    STATS.add_to(command, alloc)
-}
-
-/// A command with the options that say which PHOLD is run, and how far.
-fn asking<'a>(page: Page, alloc: Global) -> Result<Command<'a>, AllocError>
-    ensures app { IfOk result (λ command. app_of command ≡ asking_app page.name.now) }
-    ensures local { IfOk result (λ command. (fields_of command).has_globals ≡ false) }
-{
-    let command = REMOTE.add_to(measured(page, alloc)?, alloc)?;
-    let command = SEED.add_to(command, alloc)?;
-    STOP.add_to(command, alloc)
-}
-
-/// A command with the options that say how many jobs there are and how long they take.
-fn measured<'a>(page: Page, alloc: Global) -> Result<Command<'a>, AllocError>
-    ensures app { IfOk result (λ command. app_of command ≡ measured_app page.name.now) }
-    ensures local { IfOk result (λ command. (fields_of command).has_globals ≡ false) }
-{
-    let command = PROCESSES.add_to(page.command(alloc), alloc)?;
-    let command = POPULATION.add_to(command, alloc)?;
-    let command = LOOKAHEAD.add_to(command, alloc)?;
-    LONGEST.add_to(command, alloc)
+    static OPTIONS: [CommandOption; 9] = [
+        CommandOption::Number(PROCESSES),
+        CommandOption::Number(POPULATION),
+        CommandOption::Number(LOOKAHEAD),
+        CommandOption::Number(LONGEST),
+        CommandOption::Number(REMOTE),
+        CommandOption::Number(SEED),
+        CommandOption::Number(STOP),
+        CommandOption::Number(WORKERS),
+        CommandOption::Flag(STATS),
+    ];
+    Subcommand {
+        page: help::RUN,
+        options: &OPTIONS,
+    }
 }

@@ -1,30 +1,42 @@
 //! The command line, as clap is told of it.
 
-ghost use Rattle.std.specs.Prelude.{IfOk, ◌≡◌, false};
+ghost use Rattle.std.specs.Prelude.{IfOk, ◌≡◌};
 ghost use Rattle.clap.specs.Words.{app_of};
-ghost use Rattle.clap.specs.declared.builder.command.Command.TheViews.{out-Command as fields_of};
-ghost use Rattle.tw_policy_options.specs.App.{policy_app, stable_app};
+ghost use Rattle.tw_options.specs.App.{subcommand_app};
+ghost use Rattle.tw_policy_options.specs.App.{policy_app, safe_app, stable_app};
 
 use crate::help;
 use crate::splits::SPLITS;
 use clap::Command;
 use std::alloc::{AllocError, Global};
+use tw_options::{CommandOption, Subcommand};
 
 /// The whole command.
 pub(crate) fn twarp_policy<'a>(alloc: Global) -> Result<Command<'a>, AllocError>
     ensures { IfOk result (λ command. app_of command ≡ policy_app) }
 {
+    let subcommands = [safe(), stable()];
     // The file of the program has another name before it is installed.
     help::POLICY
-        .program(alloc, help::VERSION)
-        .bin_name(help::POLICY.name)?
-        .subcommand(help::SAFE.command(alloc))?
-        .subcommand(stable(alloc)?)
+        .program_with(alloc, help::VERSION, &subcommands)?
+        .bin_name(help::POLICY.name)
 }
 
-fn stable<'a>(alloc: Global) -> Result<Command<'a>, AllocError>
-    ensures app { IfOk result (λ command. app_of command ≡ stable_app) }
-    ensures local { IfOk result (λ command. (fields_of command).has_globals ≡ false) }
+fn safe() -> Subcommand
+    ensures { subcommand_app result ≡ safe_app }
 {
-    SPLITS.add_to(help::STABLE.command(alloc), alloc)
+    Subcommand {
+        page: help::SAFE,
+        options: &[],
+    }
+}
+
+fn stable() -> Subcommand
+    ensures { subcommand_app result ≡ stable_app }
+{
+    static OPTIONS: [CommandOption; 1] = [CommandOption::Number(SPLITS)];
+    Subcommand {
+        page: help::STABLE,
+        options: &OPTIONS,
+    }
 }
