@@ -73,14 +73,31 @@ pub fn run_on_one_thread<P: Progress>(
     ensures full { IsErrOf result (or_memory.Fault counter_full) → GetsStuck case.now report.stop }
 {
     if report.log {
-        let mut told = Told::new(LoggedRun::new(alloc, case)?, report.stop, progress);
-        let found = run_to_stop(alloc, &mut told, report)?;
-        Ok((told.into_run().into_outcome()?, found))
+        let (run, found) = run_told(alloc, LoggedRun::new(alloc, case)?, report, progress)?;
+        Ok((run.into_outcome()?, found))
     } else {
-        let mut told = Told::new(OneThread::new(alloc, case)?, report.stop, progress);
-        let found = run_to_stop(alloc, &mut told, report)?;
-        Ok((told.into_run().outcome_without_events()?, found))
+        let (run, found) = run_told(alloc, OneThread::new(alloc, case)?, report, progress)?;
+        Ok((run.outcome_without_events()?, found))
     }
+}
+
+/// The run at the stop, having told how far it was, and what was found at the checkpoints.
+fn run_told<R: Running + Drop, P: Progress>(
+    alloc: Global,
+    run: R,
+    report: Report,
+    progress: &P,
+) -> Result<(R, Option<Finding>), OrMemory<CounterFull>>
+    requires opening { R.run run ≡ opening_run (R.run run).case }
+    requires stop { report.stop ≤ LATEST }
+    requires every { IfSome report.every (λ n. (0 < n) × (n ≤ LATEST)) }
+    ensures ok { IfOk result (λ left. R.run left.0 ≡ complete_run (R.run run).case report.stop) }
+    ensures found { IfOk result (λ left. left.1 ≡ found_to (R.run run).case report.stop report.every) }
+    ensures full { IsErrOf result (or_memory.Fault counter_full) → GetsStuck (R.run run).case report.stop }
+{
+    let mut told = Told::new(run, report.stop, progress);
+    let found = run_to_stop(alloc, &mut told, report)?;
+    Ok((told.into_run(), found))
 }
 
 /// Runs to the stop, and answers what was found at the checkpoints, the multiples of `every`.

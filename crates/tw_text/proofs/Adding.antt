@@ -1,19 +1,17 @@
 -- An item that was added is the one that was read; one that was refused breaks the rule that was named.
-use Rattle.std.proofs.Common.{◌≡◌, ◌↔◌, ◌^◌, ◌≤◌, ◌<◌, ◌==◌, ℕ, nat_lt, Bool, true, false, not, ◌&&◌, List, [], ◌∷◌, get_or}
+use Rattle.std.proofs.Common.{◌≡◌, ◌↔◌, ◌^◌, ◌≤◌, ◌<◌, ◌==◌, ℕ, nat_lt, true, false, not, ◌&&◌, List, [], ◌∷◌, get_or}
 use Rattle.std.proofs.Common.{length, Option, Some, None, Result, Ok, Err, refl, ap₂, subst, ap, sym, ◌∙◌, inl, inr, arith}
 use Rattle.std.proofs.lemmas.Bool.{and_parts, cases_Bool, not-false}
 use Rattle.std.proofs.lemmas.Bool.Decides.{nat_tests}
 use Rattle.std.specs.List.{list_all}
 use Rattle.tw_instance.proofs.Sound.{is_router}
 use Rattle.tw_model.proofs.Unbroken.{none_broken}
-use Rattle.tw_model.specs.declared.case.Scene.{Scene}
 use Rattle.tw_model.specs.declared.case.Scene.TheVariants.{Allow, Fail, Forbid, Restore, Swap}
 use Rattle.tw_model.specs.declared.memory.OrMemory.{OrMemory}
 use Rattle.tw_model.specs.declared.memory.OrMemory.TheVariants.{Fault, Memory}
-use Rattle.tw_model.specs.declared.net.Link.{Link}
 use Rattle.tw_model.specs.declared.rule.Rule.{Rule}
 use Rattle.tw_model.specs.declared.rule.Rule.TheVariants.{NoSuchPlace, Range}
-use Rattle.tw_model.specs.Case.{Case, IsCase, bare_case}
+use Rattle.tw_model.specs.Case.{Case, IsCase}
 use Rattle.tw_model.specs.Memory.{IsUnlessMemory, map_fault}
 use Rattle.tw_model.specs.Net.{Net, paths_of}
 use Rattle.tw_model.specs.Rules.{has_line, has_place, is_within, link_fault, scene_breaks, scene_fault}
@@ -21,12 +19,11 @@ use Rattle.tw_lines.specs.declared.text_fault.LineFault.{LineFault}
 use Rattle.tw_lines.specs.declared.text_fault.LineFault.TheVariants as x
 use Rattle.tw_lines.proofs.Steps.{passed}
 use Rattle.tw_text.specs.declared.draft.Draft.{Draft}
-use Rattle.tw_text.specs.declared.draft.Draft.TheVariants.{Start, Header, Links, Paths, Scenes, Done}
 use Rattle.tw_text.specs.declared.keyword.Keyword.{Keyword}
 use Rattle.tw_text.specs.declared.keyword.Keyword.TheVariants as keyword
-use Rattle.tw_text.specs.Drafts.{before_links, before_scenes, node_in, nodes_in, of_rule, place_of, step_by, step_said, with_end, with_link, with_path, with_scene}
+use Rattle.tw_text.specs.Drafts.{node_in, nodes_in, of_rule, place_of, with_link, with_path, with_scene}
 use Rattle.tw_text.specs.FaultTable.{unless_fault}
-use Rattle.tw_text.specs.Statements.{end_line, link_line, scene_line, scene_said, scene_with, statement_with}
+use Rattle.tw_text.specs.Statements.{end_line, link_line, scene_with, statement_with}
 
 pub refused : {A : Type 0} (result : Result A (OrMemory Rule)) (e : OrMemory Rule) (f : OrMemory LineFault) (fault : Option Rule) (next : Draft) → result ≡ Err e → f ≡ map_fault (λ r. x.Rule r) e
     → ((r : Rule) → (result ≡ Err (Fault r)) ↔ (fault ≡ Some r)) → IsUnlessMemory (Err f) (unless_fault (of_rule fault) next)
@@ -150,48 +147,6 @@ pub allow_taken : (version : ℕ) (case : Case) (t v k w l : ℕ) (r : Result Dr
 allow_taken version case t v k w l r is e p h =
     subst (IsUnlessMemory r) (allow_same version case t v k is) (subst (λ v. IsUnlessMemory r (with_scene version case (Allow t v (place_of k)))) e
     (subst (λ l. IsUnlessMemory r (with_scene version case (Allow t w l))) p h))
-
--- a scene, where its line may stand
-scene_step : (d : Draft) (s : Scene) (ended : Bool) (version : ℕ) (case : Case) → before_scenes d ended ≡ Ok (version, case) → step_by d (scene_line s) ended ≡ with_scene version case s
-scene_step Start s ended version case h = absurd (cc)
-scene_step (Header v) s ended version case h = absurd (cc)
-scene_step (Done c) s ended version case h = absurd (cc)
-scene_step d s false version case h = absurd (cc)
-scene_step (Links v net) s true version case h = ap (λ (p : ℕ × Case). with_scene p.0 p.1 s) (passed true (v, bare_case net) (version, case) x.End h).1
-scene_step (Paths v net) s true version case h = ap (λ (p : ℕ × Case). with_scene p.0 p.1 s) (passed true (v, bare_case net) (version, case) x.End h).1
-scene_step (Scenes v c) s true version case h = ap (λ (p : ℕ × Case). with_scene p.0 p.1 s) (passed true (v, c) (version, case) x.End h).1
-
-pub scene_taken : (d : Draft) (k : Keyword) (ns : List ℕ) (s : Scene) (ended : Bool) (version : ℕ) (case : Case) (r : Result Draft (OrMemory LineFault)) → scene_with k ns ≡ Ok s
-    → before_scenes d ended ≡ Ok (version, case) → IsUnlessMemory r (with_scene version case s) → IsUnlessMemory r (step_said d (scene_said k ns) ended)
-scene_taken d k ns s ended version case r e before h = rw (e, scene_step d s ended version case before) h
-
--- the last line, where it may stand
-end_step : (d : Draft) (ended : Bool) (version : ℕ) (case : Case) → before_scenes d ended ≡ Ok (version, case) → step_by d end_line ended ≡ with_end version case
-end_step Start ended version case h = absurd (cc)
-end_step (Header v) ended version case h = absurd (cc)
-end_step (Done c) ended version case h = absurd (cc)
-end_step d false version case h = absurd (cc)
-end_step (Links v net) true version case h = ap (λ (p : ℕ × Case). with_end p.0 p.1) (passed true (v, bare_case net) (version, case) x.End h).1
-end_step (Paths v net) true version case h = ap (λ (p : ℕ × Case). with_end p.0 p.1) (passed true (v, bare_case net) (version, case) x.End h).1
-end_step (Scenes v c) true version case h = ap (λ (p : ℕ × Case). with_end p.0 p.1) (passed true (v, c) (version, case) x.End h).1
-
-pub end_taken : (d : Draft) (k : Keyword) (ns : List ℕ) (ended : Bool) (version : ℕ) (case : Case) (r : Result Draft (OrMemory LineFault)) → statement_with k ns ≡ Ok end_line
-    → before_scenes d ended ≡ Ok (version, case) → IsUnlessMemory r (with_end version case) → IsUnlessMemory r (step_said d (statement_with k ns) ended)
-end_taken d k ns ended version case r e before h = rw (e, end_step d ended version case before) h
-
--- a link, where its line may stand
-link_step : (d : Draft) (l : Link) (ended : Bool) (version : ℕ) (net : Net) → before_links d ended ≡ Ok (version, net) → step_by d (link_line l) ended ≡ with_link version net l
-link_step Start l ended version net h = absurd (cc)
-link_step (Header v) l ended version net h = absurd (cc)
-link_step (Paths v n) l ended version net h = absurd (cc)
-link_step (Scenes v c) l ended version net h = absurd (cc)
-link_step (Done c) l ended version net h = absurd (cc)
-link_step (Links v n) l false version net h = absurd (cc)
-link_step (Links v n) l true version net h = ap (λ (p : ℕ × Net). with_link p.0 p.1 l) (passed true (v, n) (version, net) x.End h).1
-
-pub link_taken : (d : Draft) (k : Keyword) (ns : List ℕ) (l : Link) (ended : Bool) (version : ℕ) (net : Net) (r : Result Draft (OrMemory LineFault)) → statement_with k ns ≡ Ok (link_line l)
-    → Ok (version, net) ≡ before_links d ended → IsUnlessMemory r (with_link version net l) → IsUnlessMemory r (step_said d (statement_with k ns) ended)
-link_taken d k ns l ended version net r e before h = rw (e, link_step d l ended version net (sym before)) h
 
 pub link_said : (k : Keyword) (ns : List ℕ) → k ≡ keyword.Link → 3 ≤ length ns → length ns < 4
     → statement_with k ns ≡ Ok (link_line (record { first = get_or ns 0 0; second = get_or ns 1 0; delay = get_or ns 2 0; back = get_or ns 2 0 }))

@@ -7,7 +7,7 @@ use Rattle.std.specs.declared.vec.Vec.{Vec}
 use Rattle.tw_model.specs.Case.{Case, bare_case}
 use Rattle.tw_model.specs.Net.{Net, bare_net}
 use Rattle.tw_model.specs.PermittedPath.{PermittedPath}
-use Rattle.tw_model.specs.Rules.{case_fault, link_fault, nodes_fault, path_fault, rules_in_order, scene_fault}
+use Rattle.tw_model.specs.Rules.{link_fault, nodes_fault, path_fault, rules_in_order, scene_fault}
 use Rattle.tw_model.specs.declared.case.Scene.{Scene}
 use Rattle.tw_model.specs.declared.limits.TheConstants.{LATEST_VERSION}
 use Rattle.tw_model.specs.declared.net.Link.{Link}
@@ -17,7 +17,7 @@ use Rattle.tw_lines.specs.declared.text_fault.LineFault.{LineFault}
 use Rattle.tw_lines.specs.declared.text_fault.LineFault.TheVariants as x
 use Rattle.tw_lines.specs.Reading.{◌>>=◌}
 use Rattle.tw_text.specs.declared.draft.Draft.{Draft}
-use Rattle.tw_text.specs.declared.draft.Draft.TheVariants.{Header, Links, Paths, Scenes, Done}
+use Rattle.tw_text.specs.declared.draft.Draft.TheVariants.{Start, Header, Links, Paths, Scenes, Done}
 use Rattle.tw_text.specs.FaultTable.{breaks, is_done, is_misplaced, unless_fault, with_statement}
 use Rattle.tw_text.specs.Statements.{Statement}
 
@@ -44,10 +44,6 @@ step_by d s ended = unless_fault (fault_after d s ended) (with_statement d s)
 abbrev pub step_said : Draft → Result Statement LineFault → Bool → Result Draft LineFault
 step_said d said ended = said >>= λ s. step_by d s ended
 
--- what comes next, where the line has its end
-abbrev pub check_ended : Bool → {A : Type 0} → A → Result A LineFault
-check_ended ended next = if ended then Ok next else Err x.End
-
 -- the node with this number, if the instance has it
 abbrev pub node_in : Net → ℕ → Result ℕ LineFault
 node_in net n = if nat_lt n net.nodes then Ok n else Err (x.Rule Range)
@@ -60,29 +56,28 @@ nodes_in net ns = if list_all (λ n. nat_lt n net.nodes) ns then Ok ns else Err 
 abbrev pub place_of : ℕ → ℕ
 place_of n = if nat_lt n (2 ^ 32) then n else 0
 
--- the version of the text, where the line after the header may say nodes and has its end
-abbrev pub after_header : Draft → Bool → Result ℕ LineFault
-after_header (Header version) ended = check_ended ended version
-after_header d ended = Err x.Order
+-- the draft to which a path may be added, where one or a link may
+abbrev pub before_paths : Draft → Draft
+before_paths (Links version net) = Paths version net
+before_paths d = d
 
--- the version of the text and the instance to which links may be added, where the line has its end
-abbrev pub before_links : Draft → Bool → Result (ℕ × Net) LineFault
-before_links (Links version net) ended = check_ended ended (version, net)
-before_links d ended = Err x.Order
+-- the draft to which a scene may be added, where one or a link or a path may
+abbrev pub with_scenes : Draft → Draft
+with_scenes (Links version net) = Scenes version (bare_case net)
+with_scenes (Paths version net) = Scenes version (bare_case net)
+with_scenes d = d
 
--- the version of the text and the instance to which paths may be added, where the line has its end
-abbrev pub before_paths : Draft → Bool → Result (ℕ × Net) LineFault
-before_paths (Links version net) ended = check_ended ended (version, net)
-before_paths (Paths version net) ended = check_ended ended (version, net)
-before_paths d ended = Err x.Order
-
--- the version of the text and the case to which scenes may be added, where the line has its end
-abbrev pub before_scenes : Draft → Bool → Result (ℕ × Case) LineFault
-before_scenes (Links version net) ended = check_ended ended (version, bare_case net)
-before_scenes (Paths version net) ended = check_ended ended (version, bare_case net)
-before_scenes (Scenes version case) ended = check_ended ended (version, case)
+-- the same, or why none may: scenes follow line 2 and not the last line, and the line has its end
+abbrev pub before_scenes : Draft → Bool → Result Draft LineFault
+before_scenes Start ended = Err x.Order
+before_scenes (Header version) ended = Err x.Order
 before_scenes (Done case) ended = Err x.End
-before_scenes d ended = Err x.Order
+before_scenes d ended = if ended then Ok (with_scenes d) else Err x.End
+
+-- the draft after the last line
+abbrev pub closed : Draft → Draft
+closed (Scenes version case) = Done case
+closed d = d
 
 -- a number of routers that keeps the rules, as an instance
 abbrev pub with_nodes : ℕ → ℕ → Result Draft LineFault
@@ -100,7 +95,3 @@ with_path version net p = unless_fault (of_rule (path_fault net p)) (Paths versi
 abbrev pub with_scene : ℕ → Case → Scene → Result Draft LineFault
 with_scene version case s =
     unless_fault (of_rule (scene_fault case.net (length case.scenes) s)) (Scenes version (record case { version = LATEST_VERSION; scenes = case.scenes ++ s ∷ [] }))
-
--- the whole case, which keeps the rules in its version
-abbrev pub with_end : ℕ → Case → Result Draft LineFault
-with_end version case = unless_fault (of_rule (case_fault version case.net case.scenes)) (Done (record case { version = version }))

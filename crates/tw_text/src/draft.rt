@@ -1,17 +1,18 @@
 //! What the lines so far have given.
 
-ghost use Rattle.std.specs.Prelude.{◌≡◌, ℕ, if◌then◌else◌};
+ghost use Rattle.std.specs.Prelude.{◌≡◌, ℕ, if◌then◌else◌, OnOk};
 ghost use Rattle.tw_model.specs.Memory.{IsUnlessMemory, map_fault};
 ghost use Rattle.tw_model.specs.declared.case.Scene.TheVariants as AScene;
 ghost use Rattle.tw_lines.specs.LineReader.{left_by};
-ghost use Rattle.tw_text.specs.Drafts.{after_header, before_links, before_paths, before_scenes, check_ended, node_in, nodes_in, place_of};
-ghost use Rattle.tw_text.specs.Drafts.{result_items, step_said, with_end, with_link, with_nodes, with_path, with_scene};
+ghost use Rattle.tw_text.specs.Drafts.{before_paths, before_scenes, closed, node_in, nodes_in, place_of};
+ghost use Rattle.tw_text.specs.Drafts.{result_items, step_by, step_said, with_link, with_nodes, with_path, with_scene, with_scenes};
 ghost use Rattle.tw_text.specs.FaultTable.{version_in};
-ghost use Rattle.tw_text.specs.Statements.{scene_said, statement_with};
+ghost use Rattle.tw_text.specs.Statements.{end_line, link_line, nodes_line, path_line, scene_line, scene_said, statement_with};
 ghost use Rattle.tw_text.specs.declared.draft.Draft.TheVariants as AsDraft;
 
 use crate::keyword::Keyword;
-use std::alloc::Global;
+use std::alloc::{AllocError, Global};
+use std::mem;
 use tw_instance::{Case, Instance};
 use tw_lines::LineFault;
 use tw_model::{Link, OrMemory, PermittedPath, Rule, Scene};
@@ -49,74 +50,77 @@ impl Draft {
     }
 }
 
-/// The draft with a line of this keyword and these numbers, or the lowest fault of the line.
+/// Adds a line of this keyword and these numbers, or answers the lowest fault of the line.
 pub(crate) fn take_statement(
     alloc: Global,
-    draft: Draft,
+    draft: &mut Draft,
     keyword: Keyword,
     numbers: &[u64],
     ended: bool,
-) -> Result<Draft, OrMemory<LineFault>>
-    ensures { IsUnlessMemory result (step_said draft (statement_with keyword numbers.now) ended) }
+) -> Result<(), OrMemory<LineFault>>
+    ensures { IsUnlessMemory (left_by result draft.new) (step_said draft.old (statement_with keyword numbers.now) ended) }
 {
     match (keyword, numbers) {
-        (Keyword::Nodes, [nodes]) => {
-            let version = after_header(draft, ended)?;
-            with_nodes(alloc, version, *nodes)
-        }
-        (Keyword::Link, [first, second, delay]) => {
-            let (version, instance) = before_links(draft, ended)?;
-            with_link(version, instance, *first, *second, *delay, *delay)
-        }
-        (Keyword::TwoWayLink, [first, second, delay, back]) => {
-            let (version, instance) = before_links(draft, ended)?;
-            with_link(version, instance, *first, *second, *delay, *back)
-        }
-        (Keyword::Path, [owner, nodes @ ..]) => {
-            let (version, instance) = before_paths(draft, ended)?;
-            with_path(alloc, version, instance, *owner, nodes)
-        }
-        (Keyword::End, []) => {
-            let (version, case) = before_scenes(alloc, draft, ended)?;
-            with_end(version, case)
-        }
+        (Keyword::Nodes, [nodes]) => take_nodes(alloc, draft, ended, *nodes),
+        (Keyword::Link, [first, second, delay]) => take_link(
+            draft, ended, *first, *second, *delay, *delay,
+        ),
+        (Keyword::TwoWayLink, [first, second, delay, back]) => take_link(
+            draft, ended, *first, *second, *delay, *back,
+        ),
+        (Keyword::Path, [owner, nodes @ ..]) => take_path(alloc, draft, ended, *owner, nodes),
+        (Keyword::End, []) => take_end(alloc, draft, ended),
         _ => take_scene(alloc, draft, keyword, numbers, ended),
     }
 }
 
-/// The draft with a scenario line of this keyword and these numbers, or the lowest fault of the line.
+/// Adds a scenario line of this keyword and these numbers, or answers the lowest fault of the line.
 fn take_scene(
     alloc: Global,
-    draft: Draft,
+    draft: &mut Draft,
     keyword: Keyword,
     numbers: &[u64],
     ended: bool,
-) -> Result<Draft, OrMemory<LineFault>>
-    ensures { IsUnlessMemory result (step_said draft (scene_said keyword numbers.now) ended) }
+) -> Result<(), OrMemory<LineFault>>
+    ensures { IsUnlessMemory (left_by result draft.new) (step_said draft.old (scene_said keyword numbers.now) ended) }
 {
     match (keyword, numbers) {
-        (Keyword::Fail, [time, first, second]) => {
-            let (version, case) = before_scenes(alloc, draft, ended)?;
-            with_change(version, case, false, *time, *first, *second)
-        }
-        (Keyword::Restore, [time, first, second]) => {
-            let (version, case) = before_scenes(alloc, draft, ended)?;
-            with_change(version, case, true, *time, *first, *second)
-        }
-        (Keyword::Swap, [time, node, first, second]) => {
-            let (version, case) = before_scenes(alloc, draft, ended)?;
-            with_swap(version, case, *time, *node, *first, *second)
-        }
-        (Keyword::Forbid, [time, node, line]) => {
-            let (version, case) = before_scenes(alloc, draft, ended)?;
-            with_bar(version, case, true, *time, *node, *line)
-        }
-        (Keyword::Allow, [time, node, line]) => {
-            let (version, case) = before_scenes(alloc, draft, ended)?;
-            with_bar(version, case, false, *time, *node, *line)
-        }
+        (Keyword::Fail, [time, first, second]) => take_change(
+            alloc, draft, ended, false, *time, *first, *second,
+        ),
+        (Keyword::Restore, [time, first, second]) => take_change(
+            alloc, draft, ended, true, *time, *first, *second,
+        ),
+        (Keyword::Swap, [time, node, first, second]) => take_swap(
+            alloc, draft, ended, *time, *node, *first, *second,
+        ),
+        (Keyword::Forbid, [time, node, line]) => take_bar(
+            alloc, draft, ended, true, *time, *node, *line,
+        ),
+        (Keyword::Allow, [time, node, line]) => take_bar(
+            alloc, draft, ended, false, *time, *node, *line,
+        ),
         _ => Err(OrMemory::Fault(LineFault::Word)),
     }
+}
+
+/// Begins an instance of so many routers.
+fn take_nodes(
+    alloc: Global,
+    draft: &mut Draft,
+    ended: bool,
+    nodes: u64,
+) -> Result<(), OrMemory<LineFault>>
+    ensures { IsUnlessMemory (left_by result draft.new) (step_by draft.old (nodes_line nodes) ended) }
+{
+    let Draft::Header(version) = *draft else {
+        return Err(OrMemory::Fault(LineFault::Order));
+    };
+    if !ended {
+        return Err(OrMemory::Fault(LineFault::End));
+    }
+    *draft = with_nodes(alloc, version, nodes)?;
+    Ok(())
 }
 
 /// An instance of so many routers, with no link and no path.
@@ -132,44 +136,91 @@ fn with_nodes(alloc: Global, version: u32, nodes: u64) -> Result<Draft, OrMemory
     }
 }
 
-/// The instance with one more link.
-fn with_link(
-    version: u32,
-    mut instance: Instance,
+/// Adds a link, where one may follow.
+fn take_link(
+    draft: &mut Draft,
+    ended: bool,
     first: u64,
     second: u64,
     delay: u64,
     back: u64,
-) -> Result<Draft, OrMemory<LineFault>>
-    ensures { IsUnlessMemory result (with_link version instance (record { first = first; second = second; delay = delay; back = back })) }
+) -> Result<(), OrMemory<LineFault>>
+    ensures { IsUnlessMemory (left_by result draft.new) (step_by draft.old (link_line (record { first = first; second = second; delay = delay; back = back })) ended) }
 {
-    let first = node_in(&instance, first)?;
-    let second = node_in(&instance, second)?;
+    let Draft::Links(_, instance) = draft else {
+        return Err(OrMemory::Fault(LineFault::Order));
+    };
+    if !ended {
+        return Err(OrMemory::Fault(LineFault::End));
+    }
+    add_link(instance, first, second, delay, back)
+}
+
+/// Adds a link to the instance.
+fn add_link(
+    instance: &mut Instance,
+    first: u64,
+    second: u64,
+    delay: u64,
+    back: u64,
+) -> Result<(), OrMemory<LineFault>>
+    ensures { (version : ℕ) → IsUnlessMemory (left_by result (AsDraft.Links version instance.new)) (with_link version instance.old (record { first = first; second = second; delay = delay; back = back })) }
+{
+    let first = node_in(instance, first)?;
+    let second = node_in(instance, second)?;
     match instance.add_link(Link {
         first,
         second,
         delay,
         back,
     }) {
-        Ok(()) => Ok(Draft::Links(version, instance)),
+        Ok(()) => Ok(()),
         Err(refusal) => Err(rule_fault(refusal)),
     }
 }
 
-/// The instance with one more path.
-fn with_path(
+/// Adds a path, where one may follow.
+fn take_path(
     alloc: Global,
-    version: u32,
-    mut instance: Instance,
+    draft: &mut Draft,
+    ended: bool,
     owner: u64,
     nodes: &[u64],
-) -> Result<Draft, OrMemory<LineFault>>
-    ensures { IsUnlessMemory result (with_path version instance (record { owner = owner; nodes = nodes.now })) }
+) -> Result<(), OrMemory<LineFault>>
+    ensures { IsUnlessMemory (left_by result draft.new) (step_by draft.old (path_line (record { owner = owner; nodes = nodes.now })) ended) }
 {
-    let owner = node_in(&instance, owner)?;
-    let nodes = nodes_in(alloc, &instance, nodes)?;
-    add_path(&mut instance, PermittedPath { owner, nodes })?;
-    Ok(Draft::Paths(version, instance))
+    open_paths(draft);
+    let Draft::Paths(_, instance) = draft else {
+        return Err(OrMemory::Fault(LineFault::Order));
+    };
+    if !ended {
+        return Err(OrMemory::Fault(LineFault::End));
+    }
+    add_path_of(alloc, instance, owner, nodes)
+}
+
+/// Where a link may follow, a path may.
+fn open_paths(draft: &mut Draft)
+    ensures { draft.new ≡ before_paths draft.old }
+{
+    *draft = match mem::replace(draft, Draft::Start) {
+        Draft::Links(version, instance) => Draft::Paths(version, instance),
+        other => other,
+    };
+}
+
+/// Adds a path of these nodes to the instance.
+fn add_path_of(
+    alloc: Global,
+    instance: &mut Instance,
+    owner: u64,
+    nodes: &[u64],
+) -> Result<(), OrMemory<LineFault>>
+    ensures { (version : ℕ) → IsUnlessMemory (left_by result (AsDraft.Paths version instance.new)) (with_path version instance.old (record { owner = owner; nodes = nodes.now })) }
+{
+    let owner = node_in(instance, owner)?;
+    let nodes = nodes_in(alloc, instance, nodes)?;
+    add_path(instance, PermittedPath { owner, nodes })
 }
 
 /// Adds a path to the instance.
@@ -185,50 +236,89 @@ pub(crate) fn add_path(
     }
 }
 
-/// The case with one more repair of a link, or else one more failure.
-fn with_change(
-    version: u32,
-    case: Case,
+/// Adds a repair of a link, or else a failure, where a scene may follow.
+fn take_change(
+    alloc: Global,
+    draft: &mut Draft,
+    ended: bool,
     repairs: bool,
     time: u64,
     first: u64,
     second: u64,
-) -> Result<Draft, OrMemory<LineFault>>
-    ensures { IsUnlessMemory result (with_scene version case (if repairs then AScene.Restore time first second else AScene.Fail time first second)) }
+) -> Result<(), OrMemory<LineFault>>
+    ensures { IsUnlessMemory (left_by result draft.new) (step_by draft.old (scene_line (if repairs then AScene.Restore time first second else AScene.Fail time first second)) ended) }
+{
+    open_scenes(alloc, draft, ended)?;
+    let Draft::Scenes(_, case) = draft else {
+        return Err(OrMemory::Fault(LineFault::Order));
+    };
+    add_change(case, repairs, time, first, second)
+}
+
+/// Adds a repair of a link to the case, or else a failure.
+fn add_change(
+    case: &mut Case,
+    repairs: bool,
+    time: u64,
+    first: u64,
+    second: u64,
+) -> Result<(), OrMemory<LineFault>>
+    ensures { (version : ℕ) → IsUnlessMemory (left_by result (AsDraft.Scenes version case.new)) (with_scene version case.old (if repairs then AScene.Restore time first second else AScene.Fail time first second)) }
 {
     let first = node_in(case.instance(), first)?;
     let second = node_in(case.instance(), second)?;
     if repairs {
-        let repair = Scene::Restore {
+        return add_scene(
+            case,
+            Scene::Restore {
+                time,
+                first,
+                second,
+            },
+        );
+    }
+    add_scene(
+        case,
+        Scene::Fail {
             time,
             first,
             second,
-        };
-        return with_scene(version, case, repair);
-    }
-    let failure = Scene::Fail {
-        time,
-        first,
-        second,
-    };
-    with_scene(version, case, failure)
+        },
+    )
 }
 
-/// The case with one more exchange of two places of an order.
-fn with_swap(
-    version: u32,
-    case: Case,
+/// Adds an exchange of two places of an order, where a scene may follow.
+fn take_swap(
+    alloc: Global,
+    draft: &mut Draft,
+    ended: bool,
     time: u64,
     node: u64,
     first: u64,
     second: u64,
-) -> Result<Draft, OrMemory<LineFault>>
-    ensures { IsUnlessMemory result (with_scene version case (AScene.Swap time node first second)) }
+) -> Result<(), OrMemory<LineFault>>
+    ensures { IsUnlessMemory (left_by result draft.new) (step_by draft.old (scene_line (AScene.Swap time node first second)) ended) }
+{
+    open_scenes(alloc, draft, ended)?;
+    let Draft::Scenes(_, case) = draft else {
+        return Err(OrMemory::Fault(LineFault::Order));
+    };
+    add_swap(case, time, node, first, second)
+}
+
+/// Adds an exchange of two places of an order to the case.
+fn add_swap(
+    case: &mut Case,
+    time: u64,
+    node: u64,
+    first: u64,
+    second: u64,
+) -> Result<(), OrMemory<LineFault>>
+    ensures { (version : ℕ) → IsUnlessMemory (left_by result (AsDraft.Scenes version case.new)) (with_scene version case.old (AScene.Swap time node first second)) }
 {
     let node = node_in(case.instance(), node)?;
     let (first, second) = (place_of(first), place_of(second));
-    with_scene(
-        version,
+    add_scene(
         case,
         Scene::Swap {
             time,
@@ -239,111 +329,102 @@ fn with_swap(
     )
 }
 
-/// The case with one more path forbidden, or else allowed again.
-fn with_bar(
-    version: u32,
-    case: Case,
+/// Forbids a path, or else allows it again, where a scene may follow.
+fn take_bar(
+    alloc: Global,
+    draft: &mut Draft,
+    ended: bool,
     forbids: bool,
     time: u64,
     node: u64,
     line: u64,
-) -> Result<Draft, OrMemory<LineFault>>
-    ensures { IsUnlessMemory result (with_scene version case (if forbids then AScene.Forbid time node line else AScene.Allow time node line)) }
+) -> Result<(), OrMemory<LineFault>>
+    ensures { IsUnlessMemory (left_by result draft.new) (step_by draft.old (scene_line (if forbids then AScene.Forbid time node line else AScene.Allow time node line)) ended) }
+{
+    open_scenes(alloc, draft, ended)?;
+    let Draft::Scenes(_, case) = draft else {
+        return Err(OrMemory::Fault(LineFault::Order));
+    };
+    add_bar(case, forbids, time, node, line)
+}
+
+/// Forbids a path of the case, or else allows it again.
+fn add_bar(
+    case: &mut Case,
+    forbids: bool,
+    time: u64,
+    node: u64,
+    line: u64,
+) -> Result<(), OrMemory<LineFault>>
+    ensures { (version : ℕ) → IsUnlessMemory (left_by result (AsDraft.Scenes version case.new)) (with_scene version case.old (if forbids then AScene.Forbid time node line else AScene.Allow time node line)) }
 {
     let node = node_in(case.instance(), node)?;
     let line = place_of(line);
     if forbids {
-        return with_scene(version, case, Scene::Forbid { time, node, line });
+        return add_scene(case, Scene::Forbid { time, node, line });
     }
-    with_scene(version, case, Scene::Allow { time, node, line })
+    add_scene(case, Scene::Allow { time, node, line })
 }
 
-/// The case with one more scene.
-fn with_scene(version: u32, mut case: Case, scene: Scene) -> Result<Draft, OrMemory<LineFault>>
-    ensures { IsUnlessMemory result (with_scene version case scene) }
+/// Adds a scene to the case.
+fn add_scene(case: &mut Case, scene: Scene) -> Result<(), OrMemory<LineFault>>
+    ensures { (version : ℕ) → IsUnlessMemory (left_by result (AsDraft.Scenes version case.new)) (with_scene version case.old scene) }
 {
     match case.add(scene) {
-        Ok(()) => Ok(Draft::Scenes(version, case)),
+        Ok(()) => Ok(()),
         Err(refusal) => Err(rule_fault(refusal)),
     }
 }
 
-/// The whole case, in its version.
-fn with_end(version: u32, mut case: Case) -> Result<Draft, OrMemory<LineFault>>
-    ensures { IsUnlessMemory result (with_end version case) }
+/// Ends the case, in its version, where its last line may follow.
+fn take_end(alloc: Global, draft: &mut Draft, ended: bool) -> Result<(), OrMemory<LineFault>>
+    ensures { IsUnlessMemory (left_by result draft.new) (step_by draft.old end_line ended) }
 {
-    match case.set_version(version) {
-        Ok(()) => Ok(Draft::Done(case)),
-        Err(rule) => Err(OrMemory::Fault(LineFault::Rule(rule))),
+    open_scenes(alloc, draft, ended)?;
+    let Draft::Scenes(version, case) = draft else {
+        return Err(OrMemory::Fault(LineFault::Order));
+    };
+    if let Err(rule) = case.set_version(*version) {
+        return Err(OrMemory::Fault(LineFault::Rule(rule)));
     }
+    close(draft);
+    Ok(())
 }
 
-/// The version of the text, where the header is the line before and this one has its end.
-fn after_header(draft: Draft, ended: bool) -> Result<u32, LineFault>
-    ensures { result ≡ after_header draft ended }
+/// No line follows the scenes.
+fn close(draft: &mut Draft)
+    ensures { draft.new ≡ closed draft.old }
 {
-    match draft {
-        Draft::Header(version) => {
-            check_end(ended)?;
-            Ok(version)
-        }
-        _ => Err(LineFault::Order),
-    }
+    *draft = match mem::replace(draft, Draft::Start) {
+        Draft::Scenes(_, case) => Draft::Done(case),
+        other => other,
+    };
 }
 
-/// The version of the text and the instance to which a link may be added, where its line has its end.
-fn before_links(draft: Draft, ended: bool) -> Result<(u32, Instance), LineFault>
-    ensures { result ≡ before_links draft ended }
+/// Where a link or a path may follow, a scene may, if its line has its end.
+fn open_scenes(alloc: Global, draft: &mut Draft, ended: bool) -> Result<(), OrMemory<LineFault>>
+    ensures { IsUnlessMemory (left_by result draft.new) (before_scenes draft.old ended) }
 {
     match draft {
-        Draft::Links(version, instance) => {
-            check_end(ended)?;
-            Ok((version, instance))
-        }
-        _ => Err(LineFault::Order),
-    }
-}
-
-/// The version of the text and the instance to which a path may be added, where its line has its end.
-fn before_paths(draft: Draft, ended: bool) -> Result<(u32, Instance), LineFault>
-    ensures { result ≡ before_paths draft ended }
-{
-    match draft {
-        Draft::Links(version, instance) | Draft::Paths(version, instance) => {
-            check_end(ended)?;
-            Ok((version, instance))
-        }
-        _ => Err(LineFault::Order),
-    }
-}
-
-/// The version of the text and the case to which a scene may be added, where its line has its end.
-fn before_scenes(
-    alloc: Global,
-    draft: Draft,
-    ended: bool,
-) -> Result<(u32, Case), OrMemory<LineFault>>
-    ensures { IsUnlessMemory result (before_scenes draft ended) }
-{
-    match draft {
-        Draft::Links(version, instance) | Draft::Paths(version, instance) => {
-            check_end(ended)?;
-            Ok((version, Case::new(alloc, instance)?))
-        }
-        Draft::Scenes(version, case) => {
-            check_end(ended)?;
-            Ok((version, case))
-        }
-        Draft::Done(_) => Err(OrMemory::Fault(LineFault::End)),
         Draft::Start | Draft::Header(_) => Err(OrMemory::Fault(LineFault::Order)),
+        Draft::Done(_) => Err(OrMemory::Fault(LineFault::End)),
+        _ if !ended => Err(OrMemory::Fault(LineFault::End)),
+        _ => Ok(begin_scenes(alloc, draft)?),
     }
 }
 
-/// That the line has its end.
-fn check_end(ended: bool) -> Result<(), LineFault>
-    ensures { result ≡ check_ended ended tt }
+/// Where a link or a path may follow, a scene may.
+fn begin_scenes(alloc: Global, draft: &mut Draft) -> Result<(), AllocError>
+    ensures { OnOk result (draft.new ≡ with_scenes draft.old) }
 {
-    if ended { Ok(()) } else { Err(LineFault::End) }
+    *draft = match mem::replace(draft, Draft::Start) {
+        Draft::Links(version, instance) | Draft::Paths(version, instance) => Draft::Scenes(
+            version,
+            Case::new(alloc, instance)?,
+        ),
+        other => other,
+    };
+    Ok(())
 }
 
 /// The node with this number, if the instance has it.

@@ -3,6 +3,7 @@
 ghost use Rattle.std.specs.List.{list_all};
 ghost use Rattle.std.specs.Prelude.{◌≡◌, map, false, true};
 ghost use Rattle.tw_model.specs.Memory.{IsUnlessMemory};
+ghost use Rattle.tw_lines.specs.LineReader.{left_by};
 ghost use Rattle.tw_lines.specs.Words.{is_plain, words};
 ghost use Rattle.tw_text.specs.Drafts.{result_items, step_said};
 ghost use Rattle.tw_text.specs.FaultTable.{draft_after, is_start, version_in};
@@ -15,21 +16,24 @@ use std::alloc::Global;
 use tw_lines::{LineFault, is_plain_line, number_of, split_words};
 use tw_model::OrMemory;
 
-/// The draft with one more line, or the lowest fault of the line. `ended` says whether the line has
+/// Adds one more line, or answers the lowest fault of the line. `ended` says whether the line has
 /// its end.
 pub(crate) fn read_line(
     alloc: Global,
-    draft: Draft,
+    draft: &mut Draft,
     line: &[u8],
     ended: bool,
-) -> Result<Draft, OrMemory<LineFault>>
-    ensures { IsUnlessMemory result (draft_after draft line.now ended) }
+) -> Result<(), OrMemory<LineFault>>
+    ensures { IsUnlessMemory (left_by result draft.new) (draft_after draft.old line.now ended) }
 {
     if !is_plain_line(line) {
         return Err(OrMemory::Fault(LineFault::Byte));
     }
     match draft {
-        Draft::Start => Ok(read_header(line, ended)?),
+        Draft::Start => {
+            *draft = read_header(line, ended)?;
+            Ok(())
+        }
         _ => read_later(alloc, draft, line, ended),
     }
 }
@@ -59,16 +63,16 @@ fn version_of(line: &[u8]) -> Option<u32>
     }
 }
 
-/// What a line from the second on adds.
+/// Adds a line from the second on.
 fn read_later(
     alloc: Global,
-    draft: Draft,
+    draft: &mut Draft,
     line: &[u8],
     ended: bool,
-) -> Result<Draft, OrMemory<LineFault>>
+) -> Result<(), OrMemory<LineFault>>
     requires plain { list_all is_plain line.now ≡ true }
-    requires later { is_start draft ≡ false }
-    ensures { IsUnlessMemory result (draft_after draft line.now ended) }
+    requires later { is_start draft.old ≡ false }
+    ensures { IsUnlessMemory (left_by result draft.new) (draft_after draft.old line.now ended) }
 {
     let words = split_words(alloc, line)?;
     read_words(alloc, draft, &words, ended)
@@ -77,11 +81,11 @@ fn read_later(
 #[tactic(auto, unfolding(crate::specs::Statements::statement_of))]
 fn read_words(
     alloc: Global,
-    draft: Draft,
+    draft: &mut Draft,
     words: &[&[u8]],
     ended: bool,
-) -> Result<Draft, OrMemory<LineFault>>
-    ensures { IsUnlessMemory result (step_said draft (statement_of (version_in draft) (map (λ w. w.now) words.now)) ended) }
+) -> Result<(), OrMemory<LineFault>>
+    ensures { IsUnlessMemory (left_by result draft.new) (step_said draft.old (statement_of (version_in draft.old) (map (λ w. w.now) words.now)) ended) }
 {
     let [word, arguments @ ..] = words else {
         return Err(OrMemory::Fault(LineFault::Word));

@@ -10,7 +10,6 @@ use crate::draft::{Draft, add_path};
 use crate::line::read_line;
 use crate::path_line::path_in;
 use std::alloc::Global;
-use std::mem;
 use tw_instance::Case;
 use tw_lines::{LineFault, LineReader, TextFault, read_text};
 use tw_model::OrMemory;
@@ -44,15 +43,13 @@ impl LineReader for Draft {
         line: &[u8],
         ended: bool,
     ) -> Result<(), OrMemory<LineFault>> {
-        // A long text has path lines most of all, so these are taken without moving what was read.
+        // A long text has path lines most of all, so these are read without a list of their words.
         if let Draft::Paths(_, instance) = self {
             if ended && let Some(path) = path_in(alloc, line)? {
                 return add_path(instance, path);
             }
         }
-        let draft = mem::replace(self, Draft::Start);
-        *self = read_line(alloc, draft, line, ended)?;
-        Ok(())
+        read_line(alloc, self, line, ended)
     }
 
     fn whole(self) -> Option<Case> {

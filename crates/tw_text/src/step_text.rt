@@ -147,10 +147,12 @@ fn said_by(words: &[&[u8]]) -> Result<StepLine, LineFault>
 fn said_alone(word: &[u8]) -> Result<StepLine, LineFault>
     ensures { result ≡ said_alone word.now }
 {
-    match word {
-        b"bound" => Ok(StepLine::Step(Step::Bound)),
-        b"end" => Ok(StepLine::End),
-        _ => Err(LineFault::Word),
+    if word == b"bound".as_slice() {
+        Ok(StepLine::Step(Step::Bound))
+    } else if word == b"end".as_slice() {
+        Ok(StepLine::End)
+    } else {
+        Err(LineFault::Word)
     }
 }
 
@@ -161,13 +163,18 @@ fn said_with(word: &[u8], number: &[u8]) -> Result<StepLine, LineFault>
     if number.is_empty() {
         return Err(LineFault::Word);
     }
-    let step = match word {
-        b"handle" => Step::Handle(router_of(number)?),
-        b"undo" => Step::Undo(router_of(number)?),
-        b"deliver" => Step::Deliver(number_of(number)?),
-        b"commit" => Step::Commit(router_of(number)?),
-        b"release" => Step::Release(router_of(number)?),
-        _ => return Err(LineFault::Word),
+    let step = if word == b"handle".as_slice() {
+        Step::Handle(router_of(number)?)
+    } else if word == b"undo".as_slice() {
+        Step::Undo(router_of(number)?)
+    } else if word == b"deliver".as_slice() {
+        Step::Deliver(number_of(number)?)
+    } else if word == b"commit".as_slice() {
+        Step::Commit(router_of(number)?)
+    } else if word == b"release".as_slice() {
+        Step::Release(router_of(number)?)
+    } else {
+        return Err(LineFault::Word);
     };
     Ok(StepLine::Step(step))
 }
@@ -176,5 +183,8 @@ fn said_with(word: &[u8], number: &[u8]) -> Result<StepLine, LineFault>
 fn router_of(word: &[u8]) -> Result<u32, LineFault>
     ensures { result ≡ router_of word.now }
 {
-    u32::try_from(number_of(word)?).map_err(|_| LineFault::Number)
+    let Ok(router) = u32::try_from(number_of(word)?) else {
+        return Err(LineFault::Number);
+    };
+    Ok(router)
 }

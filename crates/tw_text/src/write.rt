@@ -1,9 +1,9 @@
 //! Writing a case text.
 
-ghost use Rattle.std.specs.Prelude.{◌≡◌, ◌∷◌, ◌++◌, decimal, IfOk, OnOk};
-ghost use Rattle.std.specs.List.{flat_map};
+ghost use Rattle.std.specs.Prelude.{◌≡◌, [], ◌∷◌, ◌++◌, decimal, IfOk, OnOk};
+ghost use Rattle.std.specs.List.{flat_map, join_with_byte};
 ghost use Rattle.std.specs.String.{string_bytes};
-ghost use Rattle.tw_lines.specs.Words.{ended_line};
+ghost use Rattle.tw_lines.specs.Words.{ended_line, space};
 ghost use Rattle.tw_text.specs.Statements.{link_line};
 ghost use Rattle.tw_text.specs.Text.{line_of, line_of_path, line_of_scene, text_of_case};
 
@@ -96,19 +96,32 @@ fn push_scene(text: &mut String, scene: &Scene) -> Result<(), AllocError>
             time,
             first,
             second,
-        } => writeln!(text, "fail {time} {first} {second}"),
+        } => push_three(text, "fail", time, first, second),
         Scene::Restore {
             time,
             first,
             second,
-        } => writeln!(text, "restore {time} {first} {second}"),
+        } => push_three(text, "restore", time, first, second),
         Scene::Swap {
             time,
             node,
             first,
             second,
         } => writeln!(text, "swap {time} {node} {first} {second}"),
-        Scene::Forbid { time, node, line } => writeln!(text, "forbid {time} {node} {line}"),
-        Scene::Allow { time, node, line } => writeln!(text, "allow {time} {node} {line}"),
+        Scene::Forbid { time, node, line } => push_three(text, "forbid", time, node, line),
+        Scene::Allow { time, node, line } => push_three(text, "allow", time, node, line),
     }
+}
+
+/// Adds a line of this word and three numbers.
+fn push_three(
+    text: &mut String,
+    word: &str,
+    first: u64,
+    second: u32,
+    third: u32,
+) -> Result<(), AllocError>
+    ensures { OnOk result (string_bytes text.new ≡ string_bytes text.old ++ ended_line (join_with_byte space (word.now ∷ decimal first ∷ decimal second ∷ decimal third ∷ []))) }
+{
+    writeln!(text, "{word} {first} {second} {third}")
 }

@@ -3,11 +3,10 @@ use Rattle.tw_model.specs.Rules.{scene_fault}
 use Rattle.tw_model.specs.declared.limits.TheConstants.{LATEST_VERSION}
 use Rattle.tw_text.specs.declared.draft.Draft.TheVariants.{Scenes}
 use Rattle.tw_text.proofs.Adding.{refused}
-use Rattle.tw_text.proofs.draft.with_scene.Goals as goal
+use Rattle.tw_text.proofs.draft.add_scene.Goals as goal
 
 pub returns-in-Err : goal.returns-in-Err
 returns-in-Err c =
-    let case = c.args.case in
+    let case = c.args.case.now in
     let fault = scene_fault case.net (length case.scenes) c.args.scene in
-    let next = Scenes c.args.version (record case { version = LATEST_VERSION; scenes = case.scenes ++ c.args.scene ∷ [] }) in
-    refused c.add.result _ _ fault next c.in-Err.is c.rule_fault.ensures c.add.ensures.rule
+    λ version. refused c.add.result _ _ fault (Scenes version (record case { version = LATEST_VERSION; scenes = case.scenes ++ c.args.scene ∷ [] })) c.in-Err.is c.rule_fault.ensures c.add.ensures.rule
