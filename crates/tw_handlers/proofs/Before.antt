@@ -11,7 +11,7 @@ use Rattle.tw_model.specs.Net.{Net, empty_path, is_permitted, paths_of}
 use Rattle.tw_model.specs.Rules.{has_place}
 use Rattle.tw_model.specs.State.{IsState, State, best, has_peer, hop, is_barred, row, slot}
 use Rattle.tw_model.specs.Effect.{accepts, acts, body_suits, with_handled, effect, with_failed_link, fits, with_heard, with_repaired_link, settle, with_bar, with_swap, update_to, updates, ups}
-use Rattle.tw_handlers.specs.declared.record.UndoRecord.{UndoRecord}
+use Rattle.tw_event.specs.declared.record.UndoRecord.{UndoRecord}
 use Rattle.tw_handlers.specs.Record.{heard_before, record_of, takes_effect}
 use Rattle.tw_handlers.specs.Undo.{state_before, counters_before, with_body_undone, sends_again, sends_of_settling, counters_without_event, with_failure_undone, with_repair_undone, counters_without_settling, with_old_rib}
 use Rattle.tw_model.proofs.Suits.{body_suits-fits}

@@ -4,7 +4,7 @@ use Rattle.tw_event.specs.declared.event.Event.{Event}
 use Rattle.tw_model.specs.Net.{Net}
 use Rattle.tw_model.specs.State.{IsState, State}
 use Rattle.tw_model.specs.Effect.{effect}
-use Rattle.tw_handlers.specs.declared.record.UndoRecord.{UndoRecord}
+use Rattle.tw_event.specs.declared.record.UndoRecord.{UndoRecord}
 use Rattle.tw_handlers.specs.Record.{IsHandled}
 use Rattle.tw_handlers.specs.Undo.{state_before, sends_again}
 use Rattle.tw_handlers.proofs.Before.{state_before-effect, sends_again-effect}

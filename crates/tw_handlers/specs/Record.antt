@@ -7,7 +7,7 @@ use Rattle.tw_event.specs.declared.event.PathNo.{PathNo}
 use Rattle.tw_model.specs.Net.{Net, empty_path}
 use Rattle.tw_model.specs.State.{IsState, Router, State, is_barred, row, slot}
 use Rattle.tw_model.specs.Effect.{accepts, effect, fits}
-use Rattle.tw_handlers.specs.declared.record.UndoRecord.{UndoRecord}
+use Rattle.tw_event.specs.declared.record.UndoRecord.{UndoRecord}
 
 -- whether an event takes effect: it is not dropped, its link not already down or up, its path not already barred or allowed
 abbrev pub takes_effect : Net → ℕ → State → Event → Body → Bool

@@ -7,7 +7,7 @@ use Rattle.tw_model.specs.declared.state.Counters.{Counters}
 use Rattle.tw_model.specs.Net.{Net}
 use Rattle.tw_model.specs.State.{State, hop, row, slot}
 use Rattle.tw_model.specs.Effect.{with_bar, with_heard, with_swap, update_to, updates, ups, with_row}
-use Rattle.tw_handlers.specs.declared.record.UndoRecord.{UndoRecord}
+use Rattle.tw_event.specs.declared.record.UndoRecord.{UndoRecord}
 
 -- with the path used before
 abbrev pub with_old_rib : State → UndoRecord → State

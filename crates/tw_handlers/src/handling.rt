@@ -11,11 +11,10 @@ ghost use Rattle.tw_handlers.specs.Record.{IsHandled, record_at};
 
 use crate::fault::{CounterFull, Fault};
 use crate::fit::{does_fit, slot_of_peer};
-use crate::record::UndoRecord;
 use crate::send::News;
 use crate::settle::{count_handled, settle, settle_with_bar, settle_with_heard, settle_with_row};
 use smallvec::SmallVec;
-use tw_event::{Body, Event, PathNo};
+use tw_event::{Body, Event, PathNo, UndoRecord};
 use tw_instance::Instance;
 use tw_model::limits::MOST_COUNTED;
 use tw_model::{Counters, OrMemory, Row};

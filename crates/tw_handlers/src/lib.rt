@@ -11,7 +11,6 @@
 mod fault;
 mod fit;
 mod handling;
-mod record;
 mod send;
 mod settle;
 mod trail;
@@ -20,6 +19,6 @@ mod undoing;
 pub use fault::{CounterFull, Fault};
 pub use fit::{does_fit, does_suit};
 pub use handling::{handle, handle_fitting};
-pub use record::UndoRecord;
 pub use trail::Trail;
+pub use tw_event::UndoRecord;
 pub use undoing::{take_back, undo};

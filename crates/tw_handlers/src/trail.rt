@@ -9,12 +9,11 @@ ghost use Rattle.tw_handlers.specs.Trail.{IsTrail, handled_events, history_of, r
 use crate::fault::{CounterFull, Fault};
 use crate::fit::does_fit;
 use crate::handling::handle_fitting;
-use crate::record::UndoRecord;
 use crate::undoing::{take_back, undo};
 use smallvec::SmallVec;
 use std::alloc::{AllocError, Global};
 use std::marker::Model;
-use tw_event::Event;
+use tw_event::{Event, UndoRecord};
 use tw_instance::Instance;
 use tw_model::OrMemory;
 use tw_router::Router;

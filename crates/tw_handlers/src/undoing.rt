@@ -11,11 +11,10 @@ ghost use Rattle.tw_handlers.specs.Undo.{counters_before as counters_before_of, 
 ghost use Rattle.tw_handlers.specs.Undo.{sends_again, sends_of_repair, sends_of_settling, state_before, with_body_undone, with_failure_undone, with_repair_undone};
 
 use crate::fit::slot_of_peer;
-use crate::record::UndoRecord;
 use crate::send::{News, count_up, push_updates};
 use smallvec::SmallVec;
 use std::alloc::AllocError;
-use tw_event::{Body, Event};
+use tw_event::{Body, Event, UndoRecord};
 use tw_instance::Instance;
 use tw_model::{Counters, Row};
 use tw_router::Router;

@@ -8,7 +8,7 @@ use Rattle.tw_handlers.specs.declared.fault.CounterFull.{CounterFull}
 use Rattle.tw_handlers.specs.Record.{CameFrom, IsHandled}
 use Rattle.tw_handlers.specs.Undo.{sends_again}
 use Rattle.tw_handlers.proofs.Handled.{sends_again-handled}
-use Rattle.tw_handlers.specs.declared.record.UndoRecord.{UndoRecord}
+use Rattle.tw_event.specs.declared.record.UndoRecord.{UndoRecord}
 use Rattle.tw_model.specs.Case.{Case}
 use Rattle.tw_model.specs.Effect.{effect, fits, is_full, suits}
 use Rattle.tw_model.specs.State.{Router, State}

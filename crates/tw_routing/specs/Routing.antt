@@ -2,7 +2,7 @@
 use Rattle.std.specs.Prelude.{ℕ, ◌≡◌}
 use Rattle.tw_event.specs.declared.event.Event.{Event}
 use Rattle.tw_handlers.specs.Record.{IsHandled}
-use Rattle.tw_handlers.specs.declared.record.UndoRecord.{UndoRecord}
+use Rattle.tw_event.specs.declared.record.UndoRecord.{UndoRecord}
 use Rattle.tw_model.specs.Case.{Case, simulation}
 use Rattle.tw_model.specs.Effect.{effect}
 use Rattle.tw_model.specs.State.{Router, State}

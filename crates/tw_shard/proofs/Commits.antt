@@ -14,7 +14,7 @@ use Rattle.tw_core.specs.Steps.{put, with_commit}
 use Rattle.tw_core.proofs.Sums.{all_map}
 use Rattle.tw_event.specs.declared.event.Event.{Event}
 use Rattle.tw_handlers.specs.Record.{IsHandled}
-use Rattle.tw_handlers.specs.declared.record.UndoRecord.{UndoRecord}
+use Rattle.tw_event.specs.declared.record.UndoRecord.{UndoRecord}
 use Rattle.tw_model.specs.Case.{Case, simulation}
 use Rattle.tw_model.specs.Net.{Net}
 use Rattle.tw_model.specs.State.{State}

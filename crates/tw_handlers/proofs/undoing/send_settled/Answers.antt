@@ -4,7 +4,7 @@ use Rattle.smallvec.specs.SmallVec.{HasRoomFor}
 use Rattle.tw_model.specs.Effect.{ups}
 use Rattle.tw_model.specs.Net.{Net}
 use Rattle.tw_model.specs.State.{State}
-use Rattle.tw_handlers.specs.declared.record.UndoRecord.{UndoRecord}
+use Rattle.tw_event.specs.declared.record.UndoRecord.{UndoRecord}
 use Rattle.tw_handlers.specs.Undo.{sends_of_settling}
 use Rattle.tw_handlers.proofs.Pairs.{length-updates_to}
 use Rattle.tw_handlers.proofs.undoing.send_settled.Goals as goal

@@ -2,8 +2,8 @@
 
 ghost use Rattle.std.specs.Prelude.{◌≡◌, true, false};
 
+use crate::event::PathNo;
 use std::mem::size_of;
-use tw_event::PathNo;
 
 const SIZE: usize = size_of::<UndoRecord>();
 
@@ -25,7 +25,7 @@ pub struct UndoRecord {
 
 impl UndoRecord {
     /// The record of an event that took effect.
-    pub(crate) fn of_effect(changed: bool, rib: PathNo, heard: PathNo) -> UndoRecord
+    pub fn of_effect(changed: bool, rib: PathNo, heard: PathNo) -> UndoRecord
         ensures { result ≡ record { took_effect = true; changed = changed; rib = rib; heard = heard } }
     {
         // A record is kept for each event that may be undone, so no list may hide in it.
@@ -39,7 +39,7 @@ impl UndoRecord {
     }
 
     /// The record of an event that took no effect.
-    pub(crate) fn without_effect(rib: PathNo, heard: PathNo) -> UndoRecord
+    pub fn without_effect(rib: PathNo, heard: PathNo) -> UndoRecord
         ensures { result ≡ record { took_effect = false; changed = false; rib = rib; heard = heard } }
     {
         UndoRecord {
