@@ -8,3 +8,4 @@ pub mod Leading
 pub mod Shortened
 pub mod Reacting
 pub mod Repaired
+pub mod Settled

@@ -53,18 +53,14 @@ does_repair router event w body down =
     ap with_count (sym (ap (λ b. if b then without_sends router.state else tell router.net router.node event.time (with_repaired_link router.state k) k) down))
     ∙ body_does router event body
 
-same_update : (router : Router) (t w : ℕ) (net : Net) (v k : ℕ) (r : Row) (q : PathNo) (n : Counters) → HasRead router w net v k r q n
-    → slot router.net router.node w < length router.state.rows
-    → update_to v t q n.sent (hop net v k) (repaired_row r)
-    ≡ update_to router.node t router.state.rib router.state.counters.sent (hop router.net router.node (slot router.net router.node w))
-      (row (with_repaired_link router.state (slot router.net router.node w)) (slot router.net router.node w))
-same_update router t w net v k r q n h within =
-    let s = router.state in
-    let here = slot router.net router.node w in
-    ap₂ (λ (x : Net) (y : ℕ). update_to y t q n.sent (hop x y k) (repaired_row r)) h.own h.node
-    ∙ (ap₂ (λ (x : PathNo) (y : Counters). update_to router.node t x y.sent (hop router.net router.node k) (repaired_row r)) h.rib h.counters
-    ∙ ap₂ (λ (x : ℕ) (y : Row). update_to router.node t s.rib s.counters.sent (hop router.net router.node x) y) (at_slot router w net v k r q n h)
-      (ap repaired_row (own_row router w net v k r q n h) ∙ sym (row-with_row s here (repaired_row (row s here)) within)))
+-- an update, told of what the code read
+pub same_update : (router : Router) (t w : ℕ) (net : Net) (v k : ℕ) (x y : Row) (q : PathNo) (m n : ℕ) → net ≡ router.net → v ≡ router.node
+    → k ≡ slot router.net router.node w → q ≡ router.state.rib → m ≡ n → x ≡ y
+    → update_to v t q m (hop net v k) x ≡ update_to router.node t router.state.rib n (hop router.net router.node (slot router.net router.node w)) y
+same_update router t w net v k x y q m n own node at rib number row =
+    ap₂ (λ (a : Net) (b : ℕ). update_to b t q m (hop a b k) x) own node
+    ∙ (ap₂ (λ (a : PathNo) (b : ℕ). update_to router.node t a b (hop router.net router.node k) x) rib number
+    ∙ ap₂ (λ (a : ℕ) (b : Row). update_to router.node t router.state.rib n (hop router.net router.node a) b) at row)
 
 -- one more message is sent and one more event handled, and the row is written
 pub reacts_repaired : (router mid late : Router) (event : Event) (w : ℕ) (net : Net) (v k : ℕ) (r : Row) (q : PathNo) (n : Counters) (u : Event) (before after : List Event)
@@ -84,7 +80,9 @@ reacts_repaired router mid late event w net v k r q n u before after note h body
           ∙ (ap (λ (c : Counters). written c k r) h.counters
           ∙ ap₂ (λ (i : ℕ) (x : Row). written s.counters i x) (at_slot router w net v k r q n h) (own_row router w net v k r q n h)));
       sends = adds ∙ ap (λ (x : Event). before ++ x ∷ [])
-          (told ∙ same_update router event.time w net v k r q n h (has_slot router.net router.node s w state neighbour));
+          (told ∙ same_update router event.time w net v k (repaired_row r) (row (with_repaired_link s here) here) q n.sent s.counters.sent
+          h.own h.node (at_slot router w net v k r q n h) h.rib (ap (λ (c : Counters). c.sent) h.counters)
+          (ap repaired_row (own_row router w net v k r q n h) ∙ sym (row-with_row s here (repaired_row (row s here)) (has_slot router.net router.node s w state neighbour))));
       err = tt;
       unsent = tt;
       full = (
