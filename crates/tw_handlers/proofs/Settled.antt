@@ -1,16 +1,16 @@
--- A router that takes another path, or hears one.
-use Rattle.std.proofs.Common.{◌≡◌, ◌+◌, ◌-◌, ◌==◌, ◌&&◌, ◌++◌, ℕ, Bool, true, false, not, List, [], ◌∷◌, length, ap, ap₂, subst, sym, ◌∙◌, arith, if◌then◌else◌}
+-- A router that takes another path after an event that changed its row or its bar.
+use Rattle.std.proofs.Common.{◌≡◌, ◌+◌, ◌==◌, ◌&&◌, ◌++◌, ℕ, Bool, true, false, not, List, length, ap, ap₂, subst, sym, ◌∙◌, arith, if◌then◌else◌}
 use Rattle.std.proofs.lemmas.Bool.{eq-eqb, false≢true, ltb-false, ne_eqb, not-false}
 use Rattle.std.specs.Prelude.{Ok, is_ok, nat_lt}
-use Rattle.tw_event.specs.declared.event.Body.TheVariants.{Update}
+use Rattle.tw_event.specs.declared.event.Body.TheVariants.{Allow, Fail, Forbid, Update}
 use Rattle.tw_event.specs.declared.event.Event.{Event}
 use Rattle.tw_event.specs.declared.event.PathNo.{PathNo}
 use Rattle.tw_model.specs.declared.limits.TheConstants.{MOST_COUNTED}
 use Rattle.tw_model.specs.declared.state.Counters.{Counters}
 use Rattle.tw_model.specs.declared.state.Row.{Row}
-use Rattle.tw_model.specs.Net.{Net}
-use Rattle.tw_model.specs.State.{Router, State, best, row, slot}
-use Rattle.tw_model.specs.Effect.{Reaction, acts, settle, updates, ups, with_dropped, with_heard, with_rib, without_sends}
+use Rattle.tw_model.specs.Net.{Net, empty_path}
+use Rattle.tw_model.specs.State.{Router, State, best, is_barred, row, slot}
+use Rattle.tw_model.specs.Effect.{Reaction, acts, settle, updates, ups, with_bar, with_dropped, with_failed_link, with_heard, with_rib, with_row, without_sends}
 use Rattle.tw_handlers.specs.Calls.{Reacts, effect_at, with_count}
 use Rattle.tw_handlers.proofs.Reacting.{told_ok}
 
@@ -68,3 +68,39 @@ pub reacts_heard : {A B : Type 0} {late : Router} {before after : List Event} {x
     → Reacts {A = B} router late before after (effect_at router event) (Ok y)
 reacts_heard {A = A} {late = late} {before = before} {after = after} {x = x} router event q n k r body at is up same h =
     told_ok router event body (subst (λ (o : Reaction). Reacts {A = A} router late before after o (Ok x)) (acts_heard router event q n k r at is up same) h)
+
+-- a link that was up fails
+acts_failed : (router : Router) (event : Event) (w k : ℕ) (r : Row) → k ≡ slot router.net router.node w → r ≡ row router.state k → r.up ≡ true
+    → with_count (settle router.net router.node event.time (with_row router.state k (record r { heard = empty_path; up = false })))
+    ≡ with_count (acts router.net router.node router.state event (Fail w))
+acts_failed router event w k r at is up =
+    let s = router.state in
+    let here = slot router.net router.node w in
+    let own : r ≡ row s here = is ∙ ap (row s) at in
+    ap₂ (λ (i : ℕ) (x : Row). with_count (settle router.net router.node event.time (with_row s i (record x { heard = empty_path; up = false })))) at own
+    ∙ sym (ap (λ (b : Bool). with_count (if b then settle router.net router.node event.time (with_failed_link s here) else without_sends s)) (ap (λ (x : Row). x.up) (sym own) ∙ up))
+
+pub reacts_failed : {A B : Type 0} {late : Router} {before after : List Event} {x : A} {y : B} (router : Router) (event : Event) (w k : ℕ) (r : Row)
+    → event.body ≡ Fail w → k ≡ slot router.net router.node w → r ≡ row router.state k → r.up ≡ true
+    → Reacts {A = A} router late before after (with_count (settle router.net router.node event.time (with_row router.state k (record r { heard = empty_path; up = false })))) (Ok x)
+    → Reacts {A = B} router late before after (effect_at router event) (Ok y)
+reacts_failed {A = A} {late = late} {before = before} {after = after} {x = x} router event w k r body at is up h =
+    told_ok router event body (subst (λ (o : Reaction). Reacts {A = A} router late before after o (Ok x)) (acts_failed router event w k r at is up) h)
+
+-- a path that was not barred is forbidden
+pub reacts_forbidden : {A B : Type 0} {late : Router} {before after : List Event} {x : A} {y : B} (router : Router) (event : Event) (k : ℕ)
+    → event.body ≡ Forbid k → is_barred router.state k ≡ false
+    → Reacts {A = A} router late before after (with_count (settle router.net router.node event.time (with_bar router.state k true))) (Ok x)
+    → Reacts {A = B} router late before after (effect_at router event) (Ok y)
+reacts_forbidden {A = A} {late = late} {before = before} {after = after} {x = x} router event k body free h =
+    told_ok router event body (subst (λ (o : Reaction). Reacts {A = A} router late before after o (Ok x))
+    (sym (ap (λ (b : Bool). with_count (if b then without_sends router.state else settle router.net router.node event.time (with_bar router.state k true))) free)) h)
+
+-- a path that was barred is allowed
+pub reacts_allowed : {A B : Type 0} {late : Router} {before after : List Event} {x : A} {y : B} (router : Router) (event : Event) (k : ℕ)
+    → event.body ≡ Allow k → is_barred router.state k ≡ true
+    → Reacts {A = A} router late before after (with_count (settle router.net router.node event.time (with_bar router.state k false))) (Ok x)
+    → Reacts {A = B} router late before after (effect_at router event) (Ok y)
+reacts_allowed {A = A} {late = late} {before = before} {after = after} {x = x} router event k body barred h =
+    told_ok router event body (subst (λ (o : Reaction). Reacts {A = A} router late before after o (Ok x))
+    (sym (ap (λ (b : Bool). with_count (if b then settle router.net router.node event.time (with_bar router.state k false) else without_sends router.state)) barred)) h)

@@ -23,5 +23,5 @@ returns-clause-reaction c =
     read c.requires.body c.requires.neighbour c.node-node.ensures.state c.if-counters-ge-MOST_COUNTED.false
     (c.update.ensures
     ∙ ap (λ (h : Hop). update_to c.node-node.result c.args.event.now.time c.rib-rib.result c.counters-counters.result.sent h (repaired_row c.row-row.result))
-      (same_hop c.hops-hops.result.now (hops_of c.args.instance.now c.node-node.result) c.slot_of_peer-slot.result _ c.hops-hops.ensures.value c.slot_of_peer-slot.ensures.within))
+    (same_hop c.hops-hops.result.now (hops_of c.args.instance.now c.node-node.result) c.slot_of_peer-slot.result _ c.hops-hops.ensures.value c.slot_of_peer-slot.ensures.within))
     (c.push_reserved.ensures.items ∙ ap (λ (l : List Event). l ++ c.update.result ∷ []) c.reserve.ensures.items) c.set_counters.ensures c.set_row.ensures

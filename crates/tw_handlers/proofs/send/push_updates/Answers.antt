@@ -43,11 +43,10 @@ loop-slot-preserved c =
     let rest = up_pairs (drop (c.loop-slot.slot + 1) c.hops-hops.result.now) (drop (c.loop-slot.slot + 1) c.rows-rows.result.now) in
     let k = subst P (up_pairs-keep c.hops-hops.result.now c.rows-rows.result.now c.loop-slot.slot (record { peer = 0; delay = 0 }) _ in_hops in_rows
     c.if-not-row.false) c.loop-slot.invariant in
-    let grown = ap length c.push_reserved.ensures.items in
-    (
+    let grown = ap length c.push_reserved.ensures.items in (
       ap (λ (l : List Event). l ++ updates_to src c.args.time c.args.path (c.loop-slot.seq + 1) rest)
           (c.push_reserved.ensures.items ∙ ap (λ (u : Event). c.loop-slot.sends.items ++ u ∷ []) c.update.ensures)
-      ∙ (append_assoc c.loop-slot.sends.items _ _ ∙ k.0),
+          ∙ (append_assoc c.loop-slot.sends.items _ _ ∙ k.0),
       (let n = k.1 in omega arith),
       (let room = k.2 in omega (arith, room, grown, c.push_reserved.ensures.capacity, length_push c.loop-slot.sends.items c.update.result)),
     )

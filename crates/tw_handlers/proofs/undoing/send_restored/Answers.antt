@@ -18,9 +18,9 @@ returns-clause-ok c =
     c.push_reserved.ensures.items
     ∙ (ap (λ (l : List Event). l ++ c.update.result ∷ []) c.reserve.ensures.items
     ∙ ap (λ (u : Event). c.args.sends.now.items ++ u ∷ [])
-      (c.update.ensures
-      ∙ (ap (λ (h : Hop). update_to src c.args.event.now.time c.rib.result c.saturating_sub-seq.result h c.row.result)
-        (same_hop c.hops-hops.result.now (hops_of c.args.instance.now src) k _ c.hops-hops.ensures.value c.slot_of_peer-slot.ensures.within)
-      ∙ same_update router c.args.event.now.time c.args.peer c.args.instance.now src k c.row.result (row router.state (slot router.net router.node c.args.peer)) c.rib.result
-        c.saturating_sub-seq.result (router.state.counters.sent - 1) c.requires.own c.node-src.ensures.value at c.rib.ensures.value
-        (c.saturating_sub-seq.ensures ∙ ap (λ (n : Counters). n.sent - 1) c.counters.ensures.value) (c.row.ensures.value ∙ ap (row router.state) at))))
+    (c.update.ensures
+    ∙ (ap (λ (h : Hop). update_to src c.args.event.now.time c.rib.result c.saturating_sub-seq.result h c.row.result)
+    (same_hop c.hops-hops.result.now (hops_of c.args.instance.now src) k _ c.hops-hops.ensures.value c.slot_of_peer-slot.ensures.within)
+    ∙ same_update router c.args.event.now.time c.args.peer c.args.instance.now src k c.row.result (row router.state (slot router.net router.node c.args.peer)) c.rib.result
+    c.saturating_sub-seq.result (router.state.counters.sent - 1) c.requires.own c.node-src.ensures.value at c.rib.ensures.value
+    (c.saturating_sub-seq.ensures ∙ ap (λ (n : Counters). n.sent - 1) c.counters.ensures.value) (c.row.ensures.value ∙ ap (row router.state) at))))
