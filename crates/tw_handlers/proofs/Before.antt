@@ -84,7 +84,7 @@ with_repair_undone-with_repaired_link s k h up =
 pub with_heard-with_heard : (s : State) (k : ℕ) (q : PathNo) → k < length s.rows → with_heard (with_heard s k q) k (row s k).heard ≡ s
 with_heard-with_heard s k q h = back-row s k _ _ (ap (λ (r : Row). record r { heard = (row s k).heard }) (row-with_row s k _ h))
 
-has_slot : (net : Net) (v : ℕ) (s : State) (w : ℕ) → IsState net v s → has_peer net v w ≡ true → slot net v w < length s.rows
+pub has_slot : (net : Net) (v : ℕ) (s : State) (w : ℕ) → IsState net v s → has_peer net v w ≡ true → slot net v w < length s.rows
 has_slot net v s w state h = subst (λ n. slot net v w < n) (sym state.hops) (ltb-true _ _ h)
 
 has_order : (net : Net) (v : ℕ) (s : State) (i : ℕ) → IsState net v s → has_place net v i ≡ true → i - 1 < length s.order

@@ -6,3 +6,6 @@ pub mod Handled
 pub mod Undone
 pub mod Leading
 pub mod Shortened
+pub mod Reacting
+pub mod Repaired
+pub mod Settled

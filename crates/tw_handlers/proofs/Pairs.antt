@@ -1,5 +1,5 @@
 -- The neighbours whose link is up, one by one.
-use Rattle.std.proofs.Common.{◌≡◌, ℕ, ◌+◌, ◌<◌, ◌≤◌, arith, Bool, List, length, map, get_or, drop, ap₂, ◌∙◌, refl, false}
+use Rattle.std.proofs.Common.{◌≡◌, ℕ, ◌+◌, ◌<◌, ◌≤◌, arith, Bool, List, ◌∷◌, length, map, get_or, drop, ap₂, ◌∙◌, refl, true, false}
 use Rattle.std.proofs.lemmas.List.{drop_more, length-map}
 use Rattle.std.proofs.lemmas.List.Sums.{count_by-le-length, length-filter}
 use Rattle.std.proofs.lemmas.Slice.Zip.{length-zip}
@@ -34,3 +34,8 @@ up_pairs-skip hops rows i h r a b down = ap₂ up_pairs (drop_more hops i h a) (
 pub length-updates_to : (v t : ℕ) (q : PathNo) (n : ℕ) (pairs : List (Hop × Row)) → length (updates_to v t q n pairs) ≡ length pairs
 length-updates_to v t q n pairs =
     length-map (enumerate_from n pairs) (λ e. update_to v t q e.0 e.1.0 e.1.1) ∙ length-enumerate_from n pairs
+
+-- a link that is up is the next
+pub up_pairs-keep : (hops : List Hop) (rows : List Row) (i : ℕ) (h : Hop) (r : Row) → i < length hops → i < length rows → (get_or rows i r).up ≡ true
+    → up_pairs (drop i hops) (drop i rows) ≡ (get_or hops i h, get_or rows i r) ∷ up_pairs (drop (i + 1) hops) (drop (i + 1) rows)
+up_pairs-keep hops rows i h r a b up = ap₂ up_pairs (drop_more hops i h a) (drop_more rows i r b) ∙ rw up refl

@@ -64,8 +64,6 @@ fn send_again(
     ensures err { OnErr result (sends.new.items ≡ sends.old.items) }
 {
     match event.body {
-        Body::Start => send_settled(instance, router, event, note, sends),
-        Body::Fail(_) => send_settled(instance, router, event, note, sends),
         Body::Restore(peer) => {
             if note.took_effect {
                 send_restored(instance, router, event, peer, sends)
@@ -73,10 +71,7 @@ fn send_again(
                 Ok(())
             }
         }
-        Body::Swap(_, _) => send_settled(instance, router, event, note, sends),
-        Body::Forbid(_) => send_settled(instance, router, event, note, sends),
-        Body::Allow(_) => send_settled(instance, router, event, note, sends),
-        Body::Update { .. } => send_settled(instance, router, event, note, sends),
+        _ => send_settled(instance, router, event, note, sends),
     }
 }
 

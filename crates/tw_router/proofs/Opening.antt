@@ -1,8 +1,9 @@
 -- How a router begins.
-use Rattle.std.proofs.Common.{◌≡◌, ◌≢◌, ℕ, zero, suc, ◌≤◌, Bool, true, false, List, [], ◌∷◌, get_or, length, map, set, refl, ap, sym, subst, ◌∙◌, arith}
+use Rattle.std.proofs.Common.{◌≡◌, ◌≢◌, ℕ, zero, suc, ◌≤◌, Bool, true, false, List, [], ◌∷◌, get_or, length, map, replicate, set, refl, ap, sym, subst, ◌∙◌, arith}
 use Rattle.std.proofs.lemmas.List.{length-map}
 use Rattle.std.proofs.lemmas.List.Elements.{All-map, All-same, All-weaker}
 use Rattle.std.specs.List.{All, AllPairs}
+use Rattle.std.specs.Prelude.{Result, Ok, Err, IfOk}
 use Rattle.tw_event.specs.declared.event.PathNo.{PathNo}
 use Rattle.tw_model.specs.declared.state.Counters.{Counters}
 use Rattle.tw_model.specs.declared.state.Row.{Row}
@@ -46,3 +47,13 @@ none_barred_then (b ∷ bars) zero zero none = refl
 none_barred_then (b ∷ bars) zero (suc k) none = none (suc k)
 none_barred_then (b ∷ bars) (suc i) zero none = none zero
 none_barred_then (b ∷ bars) (suc i) (suc k) none = none_barred_then bars i k (λ j. none (suc j))
+
+-- one value for each of a list
+pub same_each : {X Y : Type 0} (xs : List X) (y : Y) → replicate (length xs) y ≡ map (λ x. y) xs
+same_each [] y = refl
+same_each (x ∷ xs) y = ap (λ ys. y ∷ ys) (same_each xs y)
+
+-- what follows of each value holds of the one that a call made
+pub made : {X E : Type 0} {P Q : X → Type 0} (result : Result X E) → IfOk result P → ((x : X) → P x → Q x) → IfOk result Q
+made (Ok x) h follows = follows x h
+made (Err e) h follows = tt

@@ -290,13 +290,13 @@ fn fresh_rows(alloc: Global, hops: &[Hop]) -> Result<Vec<Row>, AllocError>
         up: true,
         session: 0,
     };
-    hops.iter().map(|_| fresh).collect(alloc)
+    vec![in alloc; fresh; hops.len()]
 }
 
 fn unbarred(alloc: Global, paths: &[PathNo]) -> Result<Vec<bool>, AllocError>
     ensures { IfOk result (λ bars. bars.items ≡ map (λ q. false) paths.now) }
 {
-    paths.iter().map(|_| false).collect(alloc)
+    vec![in alloc; false; paths.len()]
 }
 
 fn is_counted(counters: Counters) -> bool

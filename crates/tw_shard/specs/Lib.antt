@@ -10,3 +10,4 @@ pub mod Timeline
 pub mod Shards
 pub mod Cut
 pub mod Vacant
+pub mod Parts

@@ -1,5 +1,5 @@
 //! All shards of a case, by rising worker: what is read of its routers, each at the shard that has it.
-ghost use Rattle.std.specs.Prelude.{◌≡◌, ◌↔◌, ◌<◌, ◌++◌, ℕ, length, reverse, slice_index_or, take, true, IfOk, IsTrue, OnOk};
+ghost use Rattle.std.specs.Prelude.{◌≡◌, ◌↔◌, ◌<◌, ◌++◌, [], ℕ, length, reverse, slice_index_or, take, true, IfOk, IsTrue, OnOk};
 ghost use Rattle.std.specs.List.{flat_map, range_with_len};
 ghost use Rattle.tw_core.specs.Machine.{committed};
 ghost use Rattle.tw_model.specs.Case.{IsCase, simulation};
@@ -58,27 +58,28 @@ pub fn committed_events(
     requires retained { RetainAll case.now shards.now }
     ensures { IfOk result (λ v. v.items ≡ committed_of_all case.now shards.now) }
 {
-    let mut events = committed_by_router(alloc, case, shards)?;
+    let mut events = Vec::new(alloc);
+    add_by_router(case, shards, &mut events)?;
     events.sort_unstable();
     Ok(events)
 }
 
-/// The committed events of each router in turn.
-fn committed_by_router(
-    alloc: Global,
+/// Adds the committed events of each router in turn to a list that has none.
+fn add_by_router(
     case: &Case,
     shards: &[Shard<'_>],
-) -> Result<Vec<Event>, AllocError>
+    events: &mut Vec<Event>,
+) -> Result<(), AllocError>
     requires all { HaveAll case.now shards.now }
     requires retained { RetainAll case.now shards.now }
-    ensures events { IfOk result (λ v. v.items ≡ flat_map (λ r. oldest_in case.now shards.now r) (range_with_len 0 case.now.net.nodes)) }
+    requires none { events.old.items ≡ [] }
+    ensures events { OnOk result (events.new.items ≡ flat_map (λ r. oldest_in case.now shards.now r) (range_with_len 0 case.now.net.nodes)) }
     ensures case { IsCase case.now }
 {
-    let mut events = Vec::new(alloc);
     for router in 0..case.instance().nodes() {
-        add_committed(shard_for(shards, router), router, &mut events)?;
+        add_committed(shard_for(shards, router), router, events)?;
     }
-    Ok(events)
+    Ok(())
 }
 
 /// Adds as many of a router's events, the oldest first, as are committed. The router is one of the shard's,

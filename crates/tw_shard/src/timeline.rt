@@ -77,10 +77,12 @@ impl<'a> Timeline<'a> {
         requires { node < case.now.net.nodes }
         ensures { IfOk result (λ timeline. timeline ≡ opening_timeline case.now retains node) }
     {
+        let ahead = Ahead::new(alloc)?;
+        let router = Router::new(alloc, case.instance(), node)?;
         Ok(Timeline {
-            router: Router::new(alloc, case.instance(), node)?,
+            router,
             past: Past::new(alloc, case, node, retains),
-            ahead: Ahead::new(alloc)?,
+            ahead,
             room: OPENING_ROOM,
             past_change: 0,
         })

@@ -6,7 +6,9 @@ ghost use Rattle.tw_event.specs.Order.{event_before};
 ghost use Rattle.tw_model.specs.Case.{opening_events};
 ghost use Rattle.tw_ordered.specs.Queue.{AreFor};
 ghost use Rattle.tw_shard.specs.Roster.{has};
-ghost use Rattle.tw_shard.specs.Shard.{IsOpeningBy, IsOpeningShard};
+ghost use Rattle.tw_shard.specs.Inside.{HasHandledTo};
+ghost use Rattle.tw_shard.specs.Parts.{quiet_shard};
+ghost use Rattle.tw_shard.specs.Shard.{IsOpeningBy, IsOpeningShard, IsSoundShard};
 ghost use Rattle.tw_shard.specs.Timeline.{opening_timeline};
 ghost use Rattle.tw_sim.specs.declared.machine.Cancel.TheVariants.{Aggressive};
 ghost use Rattle.tw_sim.specs.Ordered.{insert, insert_all};
@@ -94,11 +96,42 @@ impl<'a> Shard<'a> {
         ensures { (who : ℕ → ℕ) → roster.routers ≡ filter (λ r. who r == worker) (range_with_len 0 case.now.net.nodes)
             → IfOk result (λ shard. IsOpeningBy case.now who worker workers retains cancel shard) }
     {
-        let instance = case.instance();
         let timelines = opening_timelines(alloc, case, roster.routers(), retains)?;
         let pending = opening_queue(alloc, case, &roster)?;
-        let kept = Pending::new(alloc, instance.nodes())?;
-        Ok(Shard {
+        let kept = Pending::new(alloc, case.instance().nodes())?;
+        Ok(Shard::of_parts(
+            case, worker, workers, retains, cancel, 0, 0, roster, timelines, pending, kept,
+        ))
+    }
+
+    /// A shard of these parts with this bound, whose routers have handled nothing after `latest`. It has sent
+    /// nothing and holds nothing.
+    pub(super) fn of_parts(
+        case: &'a Case,
+        worker: u32,
+        workers: u32,
+        retains: bool,
+        cancel: Cancel,
+        bound: u64,
+        latest: u64,
+        roster: Roster,
+        timelines: Vec<Timeline<'a>>,
+        pending: Pending,
+        kept: Pending,
+    ) -> Shard<'a>
+        requires whole { IsSoundShard (quiet_shard (record { case = case.now; worker = worker; workers = workers; retains = retains; cancel = cancel })
+            bound roster.routers timelines.items pending.events kept.events) }
+        requires latest { HasHandledTo latest (quiet_shard (record { case = case.now; worker = worker; workers = workers; retains = retains; cancel = cancel })
+            bound roster.routers timelines.items pending.events kept.events) }
+        requires count { roster.count ≡ case.now.net.nodes }
+        requires waiting { pending.routers ≡ case.now.net.nodes }
+        requires keeping { kept.routers ≡ case.now.net.nodes }
+        ensures { result ≡ quiet_shard (record { case = case.now; worker = worker; workers = workers; retains = retains; cancel = cancel })
+            bound roster.routers timelines.entry.items pending.events kept.events }
+    {
+        let alloc = *timelines.allocator();
+        let nodes = case.instance().nodes();
+        Shard {
             case,
             worker,
             workers,
@@ -107,15 +140,15 @@ impl<'a> Shard<'a> {
             pending,
             kept,
             outgoing: Vec::new(alloc),
-            held: HeldSends::new(alloc, instance.nodes()),
+            held: HeldSends::new(alloc, nodes),
             sends: SmallVec::new(alloc),
-            latest: 0,
+            latest,
             ticks: 0,
             tally: Tally::default(),
-            bound: 0,
+            bound,
             retains,
             cancel,
-        })
+        }
     }
 }
 

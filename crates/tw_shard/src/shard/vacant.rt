@@ -1,6 +1,6 @@
 //! A shard where all workers stand at one time of the run, before its routers come.
 
-ghost use Rattle.std.specs.Prelude.{◌≡◌, ◌==◌, ◌<◌, [], ℕ, Some, drop, filter, length, slice_get, slice_index_or, IfOk};
+ghost use Rattle.std.specs.Prelude.{◌≡◌, ◌==◌, ◌<◌, [], ℕ, Some, drop, filter, length, slice_get, slice_index_or, IfOk, OnOk};
 ghost use Rattle.std.specs.List.{AllByRecursion, range_with_len};
 ghost use Rattle.tw_event.specs.Order.{event_before};
 ghost use Rattle.tw_model.specs.Case.{simulation};
@@ -16,13 +16,10 @@ use super::open::insert_own;
 use crate::ahead::Ahead;
 use crate::roster::Roster;
 use crate::router_at::RouterAt;
-use crate::tally::Tally;
 use crate::timeline::Timeline;
-use smallvec::SmallVec;
 use std::alloc::{AllocError, Global};
 use std::marker::Model;
 use tw_event::Event;
-use tw_held::HeldSends;
 use tw_instance::Case;
 use tw_queue::Pending;
 use tw_sim::Cancel;
@@ -121,27 +118,21 @@ impl<'a> VacantShard<'a> {
         ensures order { routers result ≡ self.entry.routers }
         ensures workers { result.terms.workers ≡ self.entry.workers }
     {
-        let alloc = *self.timelines.allocator();
-        let nodes = self.case.instance().nodes();
-        Shard {
-            case: self.case,
-            worker: self.worker,
-            workers: self.workers,
-            roster: self.roster,
-            timelines: self.timelines,
-            pending: self.pending,
-            kept: self.kept,
-            outgoing: Vec::new(alloc),
-            held: HeldSends::new(alloc, nodes),
-            sends: SmallVec::new(alloc),
-            // What its routers have handled is before the time.
-            latest: self.time.saturating_sub(1),
-            ticks: 0,
-            tally: Tally::default(),
-            bound: self.time,
-            retains: self.retains,
-            cancel: self.cancel,
-        }
+        // What its routers have handled is before the time.
+        let latest = self.time.saturating_sub(1);
+        Shard::of_parts(
+            self.case,
+            self.worker,
+            self.workers,
+            self.retains,
+            self.cancel,
+            self.time,
+            latest,
+            self.roster,
+            self.timelines,
+            self.pending,
+            self.kept,
+        )
     }
 }
 
@@ -169,7 +160,17 @@ fn queue_at(
     ensures routers { IfOk result (λ pending. pending.routers ≡ nodes) }
 {
     let mut pending = Pending::new(alloc, nodes)?;
-    pending.keep_by_time()?;
-    insert_own(&mut pending, events, roster)?;
+    fill_by_time(&mut pending, events, roster)?;
     Ok(pending)
+}
+
+/// Keeps what waits by time, and adds the events that are for these routers.
+fn fill_by_time(pending: &mut Pending, events: &[Event], roster: &Roster) -> Result<(), AllocError>
+    requires { AreFor pending.old.routers events.now }
+    ensures events { OnOk result
+        (pending.new.events ≡ insert_all event_before (filter (λ e. has roster.now.routers e.dst) events.now) pending.old.events) }
+    ensures routers { pending.new.routers ≡ pending.old.routers }
+{
+    pending.keep_by_time()?;
+    insert_own(pending, events, roster)
 }

@@ -23,3 +23,6 @@ invariant_of-self c =
       greatest = c.self.invariant.greatest ∙ ap (fold max 0) (c.self.invariant.ranks ∙ sym again);
       order = c.self.invariant.order;
     }
+
+pub returns : goal.returns
+returns c = c.self.view_is

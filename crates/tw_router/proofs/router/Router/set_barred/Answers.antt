@@ -1,6 +1,7 @@
 use Rattle.std.proofs.Common.{◌≡◌, Bool, false, ap, ap₂, ◌-◌, fold, get_or, map, max, set, subst, sym, ◌∙◌}
 use Rattle.std.proofs.lemmas.Bool.{or_parts}
 use Rattle.std.proofs.lemmas.List.{length-set}
+use Rattle.tw_model.specs.Effect.{with_bar}
 use Rattle.tw_model.specs.State.{Router as ARouter}
 use Rattle.tw_router.specs.Ranks.{rank}
 use Rattle.tw_router.proofs.Opening.{none_barred_then}
@@ -42,3 +43,6 @@ invariant_of-self c =
                 (none_barred_then a.barred.items (c.args.line - 1) k kept.1),
           );
     }
+
+pub returns : goal.returns
+returns c = ap (λ (r : ARouter). record r { state = with_bar r.state c.args.line c.args.barred }) c.self.view_is

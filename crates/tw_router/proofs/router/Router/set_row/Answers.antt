@@ -1,4 +1,5 @@
 use Rattle.std.proofs.Common.{rules, ◌∙◌, ap, ap₂, fold, max, set, sym}
+use Rattle.tw_model.specs.Effect.{with_row}
 use Rattle.tw_model.specs.State.{Router as ARouter}
 use Rattle.tw_router.specs.Ranks.{rank}
 use Rattle.tw_router.proofs.Greatest.{written_back}
@@ -31,3 +32,6 @@ greatest_after-self-inside-requires-clause-greatest c =
     ∙ (take-written a.ranks.len c.refresh_slot.new.ranks a.ranks.items (sym (c.refresh_slot.auto.ranks ∙ c.deref_mut.ensures.len))
     ∙ (c.refresh_slot.ensures ∙ ap (λ ranks. set ranks c.args.slot new) c.deref_mut.ensures.value)) in
     c.self.invariant.greatest ∙ ap (fold max 0) (sym (ap (λ ranks. set ranks c.args.slot c.index-before.result.now) written ∙ written_back a.ranks.items c.args.slot new c.index-before.result.now c.index-before.ensures))
+
+pub returns : goal.returns
+returns c = ap (λ (r : ARouter). record r { state = with_row r.state c.args.slot c.args.row }) c.self.view_is

@@ -5,6 +5,7 @@ use Rattle.std.specs.List.{AllPairs}
 use Rattle.tw_event.specs.declared.event.PathNo.{PathNo}
 use Rattle.tw_model.proofs.Paths.{distinct-swap}
 use Rattle.tw_model.specs.declared.limits.TheConstants.{MOST_PATHS}
+use Rattle.tw_model.specs.Effect.{with_swap}
 use Rattle.tw_model.specs.State.{Router as ARouter}
 use Rattle.tw_router.specs.Ranks.{rank}
 use Rattle.tw_router.proofs.Places.{take-written}
@@ -41,3 +42,10 @@ invariant_of-self c =
       greatest = c.best_rank-self-inside.ensures.value ∙ ap (fold max 0) c.deref-4.ensures.value;
       order = λ h. cc;
     }
+
+pub returns : goal.returns
+returns c =
+    let a = c.self.inside in
+    let written : List PathNo → ARouter = λ order.
+    record { net = a.instance.now; node = a.node; state = record { rib = a.rib; rows = a.rows.items; order = order; barred = a.barred.items; counters = a.counters } } in
+    ap written c.swap.ensures.items ∙ ap (λ (r : ARouter). record r { state = with_swap r.state c.args.first c.args.second }) c.self.view_is

@@ -1,7 +1,7 @@
 use Rattle.std.proofs.Common.{◌≡◌, ℕ, ◌<◌, ◌≤◌, List, false, refl, ap, sym, ◌∙◌, subst, true, set, get_or, arith}
 use Rattle.std.specs.List.{AllByRecursion}
 use Rattle.tw_model.specs.Case.{simulation}
-use Rattle.tw_shard.specs.Commit.{committed_to, not_before}
+use Rattle.tw_shard.specs.Commit.{committed_at, committed_to, not_before}
 use Rattle.tw_shard.proofs.Commits.{kept_history, runs_until}
 use Rattle.tw_shard.specs.declared.shard.Shard.TheInside.{Inside}
 use Rattle.tw_shard.specs.Inside.{shard_of}
@@ -48,6 +48,28 @@ invariant_of-self-2 c =
       kept_routers = refl;
       held_routers = refl;
     }) own.net own.node (omega arith) own.case own.retains c.self.invariant.whole.pending c.self.invariant.whole.held (omega arith) (subst (AllByRecursion (λ x. x.time ≤ a.latest)) (sym (kept_history a.bound (timeline s r))) (c.self.invariant.latest r mine))
+
+pub returns-clause-ok : goal.returns-clause-ok
+returns-clause-ok c =
+    let a = c.self.inside in
+    let s = shard_of a in
+    let r = c.args.router in
+    let at : c.place-place.result ≡ place s r = c.place-place.ensures.value ∙ ap (λ s. place s r) (sym c.self.view_is) in
+    let there : get_or c.deref_mut.result.now c.place-place.result no_timeline ≡ timeline s r = λ i. get_or (c.deref_mut.ensures.value i) (at i) no_timeline in
+    let timelines =
+    other_items a.timelines.len c.commit_at.new.timelines _ (c.commit_at.auto.timelines ∙ c.deref_mut.ensures.len)
+    ∙ (c.in_ok-commit_at.ensures.ok ∙ λ i. set (c.deref_mut.ensures.value i) (at i) (committed_to a.bound (there i))) in
+    (λ i. record {
+      terms = s.terms;
+      routers = a.roster.routers;
+      timelines = timelines i;
+      pending = a.pending.events;
+      kept = a.kept.events;
+      outgoing = a.outgoing.items;
+      held = a.held.events;
+      bound = a.bound;
+    })
+    ∙ ap (λ s. committed_at s r) c.self.view_is
 
 pub returns-clause-past : goal.returns-clause-past
 returns-clause-past c =

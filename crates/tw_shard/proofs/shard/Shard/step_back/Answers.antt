@@ -9,8 +9,10 @@ use Rattle.tw_sim.specs.Rising.{IsRising}
 use Rattle.tw_sim.proofs.Ordered.{all-insert}
 use Rattle.tw_model.specs.Effect.{fits, suits}
 use Rattle.tw_model.specs.Rules.{IsNet}
-use Rattle.tw_shard.specs.Inside.{shard_of}
-use Rattle.tw_shard.specs.Shard.{IsUndone, no_timeline, owns, place, timeline}
+use Rattle.tw_ordered.specs.Queue.{Queue}
+use Rattle.tw_shard.specs.declared.shard.Shard.TheInside.{Inside}
+use Rattle.tw_shard.specs.Inside.{HasHandledTo, IsShard, shard_of}
+use Rattle.tw_shard.specs.Shard.{IsSoundShard, IsUndone, Shard, no_timeline, owns, place, timeline}
 use Rattle.tw_shard.specs.Timeline.{Timeline, sends_after}
 use Rattle.tw_shard.proofs.Fields.{changed_shard, fits_home, fits_suits, other_items}
 use Rattle.tw_shard.proofs.Holding.{rising-held_back}
@@ -41,6 +43,25 @@ undo_at-requires-clause-routers c =
     let there : get_or c.deref_mut.result.now c.place-place.result no_timeline ≡ timeline (shard_of a) r = λ i. get_or (c.deref_mut.ensures.value i) (at i) no_timeline in
     let own = c.self.invariant.whole.routers r (subst (λ s. owns s r ≡ true) (sym c.self.view_is) c.requires.own) in
     c.self.invariant.held ∙ (ap (λ net. net.nodes) (sym own.net) ∙ ap (λ (t : Timeline). t.net.nodes) (sym there))
+
+-- once there is room for one event more, all is as it was
+reserved : (a : Inside) (q : Queue) → IsShard a → q.events ≡ a.pending.events → q.routers ≡ a.pending.routers → IsShard (record a { pending = q })
+reserved a q is events routers =
+    let same : ◌≡◌ {A = Shard} (record (shard_of a) { pending = q.events }) (shard_of a) = λ i. record (shard_of a) { pending = events i } in
+    record {
+      whole = subst IsSoundShard (sym same) is.whole;
+      roster = is.roster;
+      pending = routers ∙ is.pending;
+      kept = is.kept;
+      held = is.held;
+      latest = subst (HasHandledTo a.latest) (sym same) is.latest;
+    }
+
+pub invariant_of-self : goal.invariant_of-self
+invariant_of-self c = reserved c.self.inside c.reserve.new.self c.self.invariant c.reserve.ensures.events c.reserve.ensures.routers
+
+pub invariant_of-self-2 : goal.invariant_of-self-2
+invariant_of-self-2 c = reserved c.self.inside c.reserve.new.self c.self.invariant c.reserve.ensures.events c.reserve.ensures.routers
 
 pub invariant_of-self-3 : goal.invariant_of-self-3
 invariant_of-self-3 c =

@@ -5,8 +5,8 @@ use Rattle.tw_event.specs.Order.{event_before, event_same}
 use Rattle.tw_handlers.specs.Calls.{is_full_at}
 use Rattle.tw_model.specs.Case.{Case, simulation}
 use Rattle.tw_model.specs.Effect.{fits, suits}
-use Rattle.tw_shard.specs.Inside.{shard_of}
-use Rattle.tw_shard.specs.Shard.{handled_at, no_timeline, owns, place, timeline}
+use Rattle.tw_shard.specs.Inside.{HasHandledTo, shard_of}
+use Rattle.tw_shard.specs.Shard.{IsSoundShard, Shard, handled_at, no_timeline, owns, place, timeline}
 use Rattle.tw_shard.proofs.Fields.{changed_shard, other_items, read_here}
 use Rattle.tw_shard.specs.Timeline.{Timeline, history, router_of, sends_after, signed}
 use Rattle.tw_shard.proofs.Holding.{rising-still_held}
@@ -33,6 +33,23 @@ returns-clause-full c =
     let here = read_here c.self.inside x r c.place-place.result c.deref_mut.result.now c.self.view_is c.place-place.ensures.value c.deref_mut.ensures.value in
     let full = c.in_ok-handle_at.ensures.full in
     ((λ h. subst is_full here (full.0 h)), (λ h. full.1 (subst is_full (sym here) h)))
+
+pub invariant_of-self : goal.invariant_of-self
+invariant_of-self c =
+    let a = c.self.inside in
+    let timelines =
+    other_items a.timelines.len c.handle_at.new.timelines _ (c.handle_at.auto.timelines ∙ c.deref_mut.ensures.len)
+    ∙ (c.in_err-handle_at.ensures.err ∙ c.deref_mut.ensures.value) in
+    let same : ◌≡◌ {A = Shard} _ (shard_of a) = λ i. record (shard_of a) { timelines = timelines i; outgoing = c.in_err-handle_at.ensures.unsent i; held = c.in_err-handle_at.ensures.unheld i } in
+    let is = c.self.invariant in
+    record {
+      whole = subst IsSoundShard (sym same) is.whole;
+      roster = is.roster;
+      pending = is.pending;
+      kept = is.kept;
+      held = c.in_err-handle_at.ensures.routers ∙ is.held;
+      latest = subst (HasHandledTo a.latest) (sym same) is.latest;
+    }
 
 pub invariant_of-self-2 : goal.invariant_of-self-2
 invariant_of-self-2 c =

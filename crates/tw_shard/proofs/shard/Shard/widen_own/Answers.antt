@@ -1,10 +1,27 @@
 use Rattle.std.proofs.Common.{◌≡◌, ◌<◌, ◌*◌, ◌^◌, refl, ap, sym, ◌∙◌, subst, true, set, get_or, arith}
 use Rattle.std.proofs.lemmas.Bool.{false≢true}
-use Rattle.tw_shard.specs.Inside.{shard_of}
-use Rattle.tw_shard.specs.Shard.{no_timeline, owns, place, timeline, widened_at}
+use Rattle.tw_shard.specs.Inside.{HasHandledTo, shard_of}
+use Rattle.tw_shard.specs.Shard.{IsSoundShard, Shard, no_timeline, owns, place, timeline, widened_at}
 use Rattle.tw_shard.specs.Timeline.{Timeline}
 use Rattle.tw_shard.proofs.Fields.{changed_shard, other_items, read_here}
 use Rattle.tw_shard.proofs.shard.Shard.widen_own.Goals as goal
+
+pub invariant_of-self : goal.invariant_of-self
+invariant_of-self c =
+    let a = c.self.inside in
+    let timelines =
+    other_items a.timelines.len c.widen_at.new.timelines _ (c.widen_at.auto.timelines ∙ c.deref_mut.ensures.len)
+    ∙ (c.in_err-widen_at.ensures.err ∙ c.deref_mut.ensures.value) in
+    let same : ◌≡◌ {A = Shard} _ (shard_of a) = λ i. record (shard_of a) { timelines = timelines i } in
+    let is = c.self.invariant in
+    record {
+      whole = subst IsSoundShard (sym same) is.whole;
+      roster = is.roster;
+      pending = is.pending;
+      kept = is.kept;
+      held = is.held;
+      latest = subst (HasHandledTo a.latest) (sym same) is.latest;
+    }
 
 pub invariant_of-self-2 : goal.invariant_of-self-2
 invariant_of-self-2 c =

@@ -1,9 +1,14 @@
-use Rattle.std.proofs.Common.{◌<◌, map, refl, subst, ap, ◌∙◌}
-use Rattle.tw_shard.specs.Roster.{StandsInList}
-use Rattle.tw_shard.specs.Shard.{Shard}
-use Rattle.tw_shard.specs.Timeline.{opening_timeline}
+use Rattle.std.proofs.Common.{◌≡◌, ◌<◌, ℕ, List, [], filter, map, refl, subst, sym, ap, ◌∙◌}
+use Rattle.tw_event.specs.declared.event.Event.{Event}
+use Rattle.tw_event.specs.Order.{event_before}
+use Rattle.tw_model.specs.Case.{IsCase, opening_events}
+use Rattle.tw_shard.specs.Parts.{quiet_shard}
+use Rattle.tw_shard.specs.Roster.{StandOnce, StandsInList, has}
+use Rattle.tw_shard.specs.Shard.{IsOpeningBy, Terms}
+use Rattle.tw_shard.specs.Timeline.{Timeline, opening_timeline}
 use Rattle.tw_shard.proofs.Openings.{IsBegun, latest_begun, opening, whole_begun}
 use Rattle.tw_shard.proofs.Rosters.{all_standing}
+use Rattle.tw_sim.specs.Ordered.{insert_all}
 use Rattle.tw_shard.proofs.shard.Shard.with_roster.Goals as goal
 
 pub opening_timelines-requires : goal.opening_timelines-requires
@@ -12,41 +17,47 @@ opening_timelines-requires c =
     all_standing (λ r. r < c.args.case.now.net.nodes) c.routers.result.now
     (λ k r at. subst (λ n. r < n) c.requires.count (c.routers.ensures.roster.known k r (subst (λ rs. StandsInList rs k r) rs at)))
 
-abbrev shard_of : goal.After-default → Shard
-shard_of c = record {
-  terms = record { case = c.args.case.now; worker = c.args.worker; workers = c.args.workers; retains = c.args.retains; cancel = c.args.cancel };
-  routers = c.args.roster.routers;
-  timelines = c.in_ok-timelines.timelines.items;
-  pending = c.in_ok-pending.pending.events;
-  kept = c.in_ok-kept.kept.events;
-  outgoing = c.new-2.result.items;
-  held = c.new-3.result.events;
-  bound = 0;
-}
-
-is_begun : (c : goal.After-default) → IsBegun (shard_of c)
-is_begun c = record {
-  case = c.instance-instance.ensures.case;
-  worker = c.requires.worker;
-  known = λ k r at. subst (λ n. r < n) c.requires.count (c.routers.ensures.roster.known k r at);
-  apart = c.routers.ensures.roster.apart;
-  timelines = c.in_ok-timelines.ensures ∙ ap (λ rs. map (opening_timeline c.args.case.now c.args.retains) rs) c.routers.ensures.value;
-  pending = c.in_ok-pending.ensures.events;
-  kept = c.in_ok-kept.ensures.empty;
-  outgoing = c.new-2.ensures.items;
-  held = c.new-3.ensures.empty;
+-- parts that make a shard as it begins
+quiet_begun : (terms : Terms) (rs : List ℕ) (lines : List Timeline) (pending kept : List Event) → IsCase terms.case → terms.worker < terms.workers
+    → ((k r : ℕ) → StandsInList rs k r → r < terms.case.net.nodes) → StandOnce rs → lines ≡ map (opening_timeline terms.case terms.retains) rs
+    → pending ≡ insert_all event_before (filter (λ e. has rs e.dst) (opening_events terms.case.scenes)) [] → kept ≡ []
+    → IsBegun (quiet_shard terms 0 rs lines pending kept)
+quiet_begun terms rs lines pending kept case worker known apart are waits none = record {
+  case = case;
+  worker = worker;
+  known = known;
+  apart = apart;
+  timelines = are;
+  pending = waits;
+  kept = none;
+  outgoing = refl;
+  held = refl;
   bound = refl;
 }
 
-pub invariant_of-result : goal.invariant_of-result
-invariant_of-result c = record {
-  whole = whole_begun (shard_of c) (is_begun c);
-  roster = c.requires.count;
-  pending = c.in_ok-pending.ensures.routers;
-  kept = c.in_ok-kept.ensures.routers ∙ (c.nodes.ensures.value ∙ ap (λ net. net.nodes) c.instance-instance.ensures.value);
-  held = c.new-3.ensures.routers ∙ (c.nodes-2.ensures.value ∙ ap (λ net. net.nodes) c.instance-instance.ensures.value);
-  latest = latest_begun (shard_of c) (is_begun c);
-}
+pub of_parts-requires : goal.of_parts-requires
+of_parts-requires c =
+    let terms : Terms = record { case = c.args.case.now; worker = c.args.worker; workers = c.args.workers; retains = c.args.retains; cancel = c.args.cancel } in
+    let rs = c.args.roster.routers in
+    let nodes = c.nodes.ensures.value ∙ ap (λ net. net.nodes) c.instance.ensures.value in
+    let is = quiet_begun terms rs c.in_ok-timelines.timelines.items c.in_ok-pending.pending.events c.in_ok-kept.kept.events c.instance.ensures.case c.requires.worker
+    (λ k r at. subst (λ n. r < n) c.requires.count (c.routers.ensures.roster.known k r at)) c.routers.ensures.roster.apart
+    (c.in_ok-timelines.ensures ∙ ap (map (opening_timeline terms.case terms.retains)) c.routers.ensures.value) c.in_ok-pending.ensures.events c.in_ok-kept.ensures.empty in
+    let s = quiet_shard terms 0 rs c.in_ok-timelines.timelines.items c.in_ok-pending.pending.events c.in_ok-kept.kept.events in
+    record {
+      whole = whole_begun s is;
+      latest = latest_begun s is;
+      count = c.requires.count;
+      waiting = c.in_ok-pending.ensures.routers;
+      keeping = c.in_ok-kept.ensures.routers ∙ nodes;
+    }
 
 pub returns : goal.returns
-returns c = λ who order. opening (shard_of c) (is_begun c) who order
+returns c = λ who order.
+    let terms : Terms = record { case = c.args.case.now; worker = c.args.worker; workers = c.args.workers; retains = c.args.retains; cancel = c.args.cancel } in
+    let rs = c.args.roster.routers in
+    let is = quiet_begun terms rs c.in_ok-timelines.timelines.items c.in_ok-pending.pending.events c.in_ok-kept.kept.events c.instance.ensures.case c.requires.worker
+    (λ k r at. subst (λ n. r < n) c.requires.count (c.routers.ensures.roster.known k r at)) c.routers.ensures.roster.apart
+    (c.in_ok-timelines.ensures ∙ ap (map (opening_timeline terms.case terms.retains)) c.routers.ensures.value) c.in_ok-pending.ensures.events c.in_ok-kept.ensures.empty in
+    subst (IsOpeningBy terms.case who terms.worker terms.workers terms.retains terms.cancel) (sym c.of_parts.ensures)
+    (opening (quiet_shard terms 0 rs c.in_ok-timelines.timelines.items c.in_ok-pending.pending.events c.in_ok-kept.kept.events) is who order)

@@ -2,7 +2,7 @@ use Rattle.std.proofs.Common.{◌<◌, ap, ◌∙◌, arith}
 use Rattle.tw_shard.proofs.CommittedEvents.{oldest_there, one_gathered, own_there}
 use Rattle.tw_shard.specs.Shard.{Shard}
 use Rattle.tw_shard.specs.Shards.{oldest_in}
-use Rattle.tw_shard.proofs.shards.committed_by_router.Goals as goal
+use Rattle.tw_shard.proofs.shards.add_by_router.Goals as goal
 
 pub shard_for-requires : goal.shard_for-requires
 shard_for-requires c = c.requires.all.some
