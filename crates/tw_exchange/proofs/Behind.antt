@@ -57,32 +57,32 @@ module _ {E : Type 0} (parts : Parts E) where
       ap (fold min NEVER) (map-append (λ y. parts.time y.event) xs ys)
       ∙ (fold-append min NEVER (message_times parts xs) (message_times parts ys) ∙ (ap (λ n. fold min n (message_times parts ys)) cap ∙ (least_of_two NEVER s (message_times parts ys) ∙ swap)))
 
-module _ {E : Type 0} (parts : Parts E) {Z : Type 0} where
+module _ {X Z : Type 0} where
   -- ---- room
 
   -- there is room at the places below this one
-  pub record HasRoomUpTo (end : ℕ) (rows : List (Vec (Signed E) Z)) (lists : List (List (Signed E))) : Type 0 where
-    pub room : (w : ℕ) (row : Vec (Signed E) Z) → w < end → w < length rows → 0 < vec_len (get_or rows w row)
+  pub record HasRoomUpTo (end : ℕ) (rows : List (Vec X Z)) (lists : List (List X)) : Type 0 where
+    pub room : (w : ℕ) (row : Vec X Z) → w < end → w < length rows → 0 < vec_len (get_or rows w row)
         → vec_len (get_or rows w row) + length (get_or lists w []) ≤ vec_capacity (get_or rows w row)
 
-  pub room_up_to : (rows : List (Vec (Signed E) Z)) (lists : List (List (Signed E))) (i : ℕ) (v : Vec (Signed E) Z) → HasRoomUpTo i rows lists
+  pub room_up_to : (rows : List (Vec X Z)) (lists : List (List X)) (i : ℕ) (v : Vec X Z) → HasRoomUpTo i rows lists
       → (0 < vec_len v → vec_len v + length (get_or lists i []) ≤ vec_capacity v) → HasRoomUpTo (i + 1) (set rows i v) lists
   room_up_to rows lists i v h here = record { room = at } where
-    at : (w : ℕ) (row : Vec (Signed E) Z) → w < i + 1 → w < length (set rows i v) → 0 < vec_len (get_or (set rows i v) w row)
+    at : (w : ℕ) (row : Vec X Z) → w < i + 1 → w < length (set rows i v) → 0 < vec_len (get_or (set rows i v) w row)
         → vec_len (get_or (set rows i v) w row) + length (get_or lists w []) ≤ vec_capacity (get_or (set rows i v) w row)
     at w row end within =
         let long = length-set rows i v in
         elim (cases_eq w i) [
           | inl e ↦ (subst (λ k. 0 < vec_len (get_or (set rows i v) k row) → vec_len (get_or (set rows i v) k row) + length (get_or lists k []) ≤ vec_capacity (get_or (set rows i v) k row)) (sym e)
-              (subst (λ (u : Vec (Signed E) Z). 0 < vec_len u → vec_len u + length (get_or lists i []) ≤ vec_capacity u) (sym (get_or-set_same rows i v row (omega arith))) here))
-          | inr ne ↦ (subst (λ (u : Vec (Signed E) Z). 0 < vec_len u → vec_len u + length (get_or lists w []) ≤ vec_capacity u) (sym (get_or-set_other rows i w v row ne))
+              (subst (λ (u : Vec X Z). 0 < vec_len u → vec_len u + length (get_or lists i []) ≤ vec_capacity u) (sym (get_or-set_same rows i v row (omega arith))) here))
+          | inr ne ↦ (subst (λ (u : Vec X Z). 0 < vec_len u → vec_len u + length (get_or lists w []) ≤ vec_capacity u) (sym (get_or-set_other rows i w v row ne))
               (h.room w row (omega arith) (omega arith)))
         ]
 
   -- past the lists nothing is to come
-  pub room_all : (end : ℕ) (rows : List (Vec (Signed E) Z)) (lists : List (List (Signed E))) → HasRoomUpTo end rows lists → min (length rows) (length lists) ≤ end → HasRoomBehind rows lists
+  pub room_all : (end : ℕ) (rows : List (Vec X Z)) (lists : List (List X)) → HasRoomUpTo end rows lists → min (length rows) (length lists) ≤ end → HasRoomBehind rows lists
   room_all end rows lists h past = record { room = at } where
-    at : (w : ℕ) (row : Vec (Signed E) Z) → w < length rows → 0 < vec_len (get_or rows w row) → vec_len (get_or rows w row) + length (get_or lists w []) ≤ vec_capacity (get_or rows w row)
+    at : (w : ℕ) (row : Vec X Z) → w < length rows → 0 < vec_len (get_or rows w row) → vec_len (get_or rows w row) + length (get_or lists w []) ≤ vec_capacity (get_or rows w row)
     at w row within some =
         elim (cases_lt w end) [
           | inl below ↦ h.room w row below within some
@@ -92,10 +92,10 @@ module _ {E : Type 0} (parts : Parts E) {Z : Type 0} where
               omega arith)
         ]
 
-  room_left : (rows : List (Vec (Signed E) Z)) (lists : List (List (Signed E))) (w : ℕ) (v : Vec (Signed E) Z) → HasRoomBehind rows lists → w < length lists
+  room_left : (rows : List (Vec X Z)) (lists : List (List X)) (w : ℕ) (v : Vec X Z) → HasRoomBehind rows lists → w < length lists
       → HasRoomBehind (set rows w v) (set lists w [])
   room_left rows lists w v h within = record { room = at } where
-    at : (k : ℕ) (row : Vec (Signed E) Z) → k < length (set rows w v) → 0 < vec_len (get_or (set rows w v) k row)
+    at : (k : ℕ) (row : Vec X Z) → k < length (set rows w v) → 0 < vec_len (get_or (set rows w v) k row)
         → vec_len (get_or (set rows w v) k row) + length (get_or (set lists w []) k []) ≤ vec_capacity (get_or (set rows w v) k row)
     at k row below =
         let long = length-set rows w v in
@@ -104,11 +104,12 @@ module _ {E : Type 0} (parts : Parts E) {Z : Type 0} where
               let none : length (get_or (set lists w []) k []) ≡ 0 = ap (λ j. length (get_or (set lists w []) j [])) e ∙ ap length (get_or-set_same lists w [] [] within) in
               let most = (get_or (set rows w v) k row).ok.1 in
               omega arith)
-          | inr ne ↦ (subst (λ (u : Vec (Signed E) Z). 0 < vec_len u → vec_len u + length (get_or (set lists w []) k []) ≤ vec_capacity u) (sym (get_or-set_other rows w k v row ne))
-              (subst (λ (l : List (Signed E)). 0 < vec_len (get_or rows k row) → vec_len (get_or rows k row) + length l ≤ vec_capacity (get_or rows k row))
+          | inr ne ↦ (subst (λ (u : Vec X Z). 0 < vec_len u → vec_len u + length (get_or (set lists w []) k []) ≤ vec_capacity u) (sym (get_or-set_other rows w k v row ne))
+              (subst (λ (l : List X). 0 < vec_len (get_or rows k row) → vec_len (get_or rows k row) + length l ≤ vec_capacity (get_or rows k row))
               (sym (get_or-set_other lists w k [] [] ne)) (h.room k row (omega arith))))
         ]
 
+module _ {E : Type 0} (parts : Parts E) {Z : Type 0} where
   -- ---- lists put behind, place by place
 
   -- what was dealt at the places below w stands behind the old mail

@@ -2,7 +2,7 @@
 use Rattle.std.proofs.Common.{arith, ℕ, zero, suc, ◌+◌, ◌≡◌, ◌<◌, ◌≤◌, true, false, cond, List, [], ◌∷◌, ◌++◌}
 use Rattle.std.proofs.Common.{length, map, min, set, get_or, drop, refl, ap, sym, ◌∙◌, subst, inl, inr, append_assoc, append-nil}
 use Rattle.std.proofs.lemmas.Bool.{cases_eq, eq-eqb, ne_eqb}
-use Rattle.std.proofs.lemmas.List.{drop_more, ext_get_or, get_or-map, get_or-set_other, get_or-set_same, length-set, map-append, map-set}
+use Rattle.std.proofs.lemmas.List.{drop_more, ext_get_or, get_or-map, get_or-set_other, get_or-set_same, length-map, length-set, map-append, map-set}
 use Rattle.std.proofs.lemmas.List.Sums.{fold-append}
 use Rattle.std.specs.List.{fold}
 use Rattle.std.specs.declared.vec.Vec.{Vec}
@@ -92,6 +92,14 @@ module _ {E : Type 0} (parts : Parts E) {Z : Type 0} where
       ap (followed parts who 0 rest) (items_set mail o v (get_or (items mail) o [] ++ x ∷ []) longer)
       ∙ (sym (followed_more parts who x rest (items mail) within ∙ ap (λ k. followed parts who 0 rest (set (items mail) k (get_or (items mail) k [] ++ x ∷ []))) mine)
       ∙ ap (λ xs. followed parts who 0 xs (items mail)) (sym (drop_more out i d h)))
+
+  -- a place of the mail is one of the row beside it
+  pub long_row : (soonest : List ℕ) (mail : List (Vec (Signed E) Z)) (o : ℕ) → soonest ≡ map (soonest_of parts) (items mail) → o < length mail → o < length soonest
+  long_row soonest mail o row below =
+      let many = length_items mail in
+      let long = length-map (items mail) (soonest_of parts) in
+      let same = ap length row in
+      omega arith
 
   -- and its time lowers the least one of that mail
   pub soonest_pushed : (soonest : List ℕ) (mail : List (Vec (Signed E) Z)) (o t : ℕ) (x : Signed E) (v place : Vec (Signed E) Z) → soonest ≡ map (soonest_of parts) (items mail)

@@ -41,6 +41,18 @@ module _ {E : Type 0} (parts : Parts E) where
   home_at who n (m ∷ ms) zero o d e h below = subst (λ k. k < n) (sym e) h.0
   home_at who n (m ∷ ms) (suc i) o d e h below = home_at who n ms i o d e h.1 (omega arith)
 
+  pub home_here : (owners : Option (List ℕ)) (m n : ℕ) (out : List (Signed E)) (i o : ℕ) (d : Signed E) → m ≡ n → o ≡ worker_for owners m (parts.dst (get_or out i d).event)
+      → any_homeless parts owners n out ≡ false → i < length out → o < m
+  home_here owners m n out i o d same e none below =
+      let here = home_at (worker_for owners n) n out i o d (alike owners m n out i o d same e) (all_home owners n out none) below in
+      omega arith
+
+  -- the same, by the message and its receiver
+  pub home_now : (owners : Option (List ℕ)) (m n : ℕ) (out : List (Signed E)) (i o r : ℕ) (d : Signed E) → m ≡ n → o ≡ worker_for owners m r → r ≡ parts.dst d.event → d ≡ get_or out i d
+      → any_homeless parts owners n out ≡ false → i < length out → o < m
+  home_now owners m n out i o r d same e to is none below =
+      home_here owners m n out i o d same (e ∙ (ap (worker_for owners m) to ∙ ap (λ (x : Signed E). worker_for owners m (parts.dst x.event)) is)) none below
+
   -- where routers are dealt out in turn, each has a worker
   in_turn_home : (n : ℕ) (out : List (Signed E)) → 0 < n → AllByRecursion (λ m. owner n (parts.dst m.event) < n) out
   in_turn_home n [] some = tt

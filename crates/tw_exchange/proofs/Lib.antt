@@ -1,9 +1,11 @@
 pub mod Least
 pub mod Rooms
+pub mod Copies
 pub mod Followed
 pub mod Homes
 pub mod Behind
 pub mod Dealt
+pub mod Refusals
 pub mod Boards
 pub mod Moving
 pub mod Moves

@@ -81,6 +81,11 @@ module _ {E : Type 0} (parts : Parts E) where
       }
 
   -- where the rows have the same items
+  pub board_kept : (a : Inside E) (mail : List (Vec (Signed E) Global)) (soonest : List ℕ) → length mail ≡ vec_len a.mail → items mail ≡ items a.mail.items → board_of (with_mail a mail soonest) ≡ board_of a
+  board_kept a mail soonest long is =
+      let same : items (with_mail a mail soonest).mail.items ≡ items a.mail.items = ap items (with_items_is a.mail mail long) ∙ is in
+      λ i. record { owners = list_of a.owners; mail = same i; reports = a.reports.items; bound = a.bound; stop = a.stop; halted = a.halted }
+
   pub exchange_kept : (a : Inside E) (mail : List (Vec (Signed E) Global)) (soonest : List ℕ) → length mail ≡ vec_len a.mail → length soonest ≡ vec_len a.soonest
       → items mail ≡ items a.mail.items → soonest ≡ map (soonest_of parts) (items mail) → IsExchange parts a → IsExchange parts (with_mail a mail soonest)
   exchange_kept a mail soonest long long_too is least h =

@@ -2,7 +2,7 @@
 
 ghost use Rattle.std.specs.Prelude.{◌≡◌, ◌↔◌, ◌<◌, ◌≤◌, IfErr, IfOk, IsTrue, OnErr, OnOk, false, true, length, Err};
 ghost use Rattle.std.specs.Result.{IsErrAnd};
-ghost use Rattle.tw_exchange.specs.AnyBoard.{IsBoard, handed, is_early, is_homeless, mail_of, new_board, opening_owned, report_of, visited, workers};
+ghost use Rattle.tw_exchange.specs.AnyBoard.{AreDealt, IsBoard, handed, is_early, is_homeless, mail_of, new_board, opening_owned, report_of, visited, workers};
 ghost use Rattle.tw_exchange.specs.Owners.{list_of};
 ghost use Rattle.tw_exchange.specs.declared.visit.VisitFault.TheVariants.{Early, NoRouter, NoWorker};
 ghost use Rattle.tw_model.specs.declared.memory.OrMemory.TheVariants as or_memory;
@@ -187,25 +187,66 @@ impl<E: Timed> AnyExchange<E> {
         ensures rising { self.old.bound ≤ self.new.bound }
         ensures whole { IsBoard E.parts self.new }
     {
-        if let Err(fault) = self.may_visit(worker, is_early(&out, report, self.bound())) {
-            return Err(AnyBack {
-                out,
-                why: OrMemory::Fault(fault),
-            });
-        }
-        let mut parcels = AnyParcels::new(self.alloc);
-        if let Err(why) = parcels.deal(&self.owners, self.workers, &out) {
-            return Err(AnyBack { out, why });
-        }
-        let mut mail = Vec::new(self.alloc);
-        match self.visit_dealt(worker, &mut parcels, report, &mut mail) {
-            Ok(told) => Ok(AnyVisit {
-                mail,
-                bound: told.bound,
-                halted: told.halted,
-            }),
+        match self.visit_lent(worker, &out, report) {
+            Ok(visit) => Ok(visit),
             Err(why) => Err(AnyBack { out, why }),
         }
+    }
+
+    /// Does what [`AnyExchange::visit`] does, with messages that are lent.
+    fn visit_lent(
+        &mut self,
+        worker: u32,
+        out: &[Signed<E>],
+        report: Option<u64>,
+    ) -> Result<AnyVisit<E>, OrMemory<VisitFault>>
+        ensures board { OnOk result (self.new ≡ visited E.parts worker out.now report self.old) }
+        ensures mail { IfOk result (λ visit. visit.mail.items ≡ handed E.parts worker out.now self.old) }
+        ensures bound { IfOk result (λ visit. visit.bound ≡ self.new.bound) }
+        ensures halted { IfOk result (λ visit. visit.halted ≡ self.old.halted) }
+        ensures no_worker { result ≡ Err (or_memory.Fault NoWorker) ↔ (workers self.old ≤ worker) }
+        ensures early { result ≡ Err (or_memory.Fault Early) ↔ ((worker < workers self.old) × IsTrue (is_early E.parts out.now report self.old)) }
+        ensures no_router { result ≡ Err (or_memory.Fault NoRouter)
+            ↔ ((worker < workers self.old) × (is_early E.parts out.now report self.old ≡ false) × IsTrue (is_homeless E.parts out.now self.old)) }
+        ensures memory { result ≡ Err or_memory.Memory → 0 < length out.now }
+        ensures err { OnErr result (self.new ≡ self.old) }
+        ensures rising { self.old.bound ≤ self.new.bound }
+        ensures whole { IsBoard E.parts self.new }
+    {
+        let mut parcels = self.deal_late(worker, out, report)?;
+        let mut mail = Vec::new(self.alloc);
+        let told = self.visit_dealt(worker, &mut parcels, report, &mut mail)?;
+        Ok(AnyVisit {
+            mail,
+            bound: told.bound,
+            halted: told.halted,
+        })
+    }
+
+    /// Deals messages out for a visit of a worker, of which nothing is early.
+    fn deal_late(
+        &self,
+        worker: u32,
+        out: &[Signed<E>],
+        report: Option<u64>,
+    ) -> Result<AnyParcels<E>, OrMemory<VisitFault>>
+        ensures dealt { IfOk result (λ parcels. AreDealt E.parts self.now.owners (workers self.now) out.now parcels) }
+        ensures within { OnOk result (worker < workers self.now) }
+        ensures late { OnOk result (is_early E.parts out.now report self.now ≡ false) }
+        ensures no_worker { result ≡ Err (or_memory.Fault NoWorker) ↔ (workers self.now ≤ worker) }
+        ensures early { result ≡ Err (or_memory.Fault Early) ↔ ((worker < workers self.now) × IsTrue (is_early E.parts out.now report self.now)) }
+        ensures no_router { result ≡ Err (or_memory.Fault NoRouter)
+            ↔ ((worker < workers self.now) × (is_early E.parts out.now report self.now ≡ false) × IsTrue (is_homeless E.parts out.now self.now)) }
+        ensures memory { result ≡ Err or_memory.Memory → 0 < length out.now }
+    {
+        if let Err(fault) = self.may_visit(worker, is_early(out, report, self.bound())) {
+            return Err(OrMemory::Fault(fault));
+        }
+        let mut parcels = AnyParcels::new(self.alloc);
+        if let Err(why) = parcels.deal(&self.owners, self.workers, out) {
+            return Err(why);
+        }
+        Ok(parcels)
     }
 
     /// Whether there is such a worker, and nothing that it may deposit or report is early.

@@ -12,10 +12,7 @@ use tw_sim::Signed;
 
 /// Makes room for each list behind the mail at its place, where there is some. Where there is none, the two will be
 /// exchanged, which takes no room.
-pub fn make_room_behind<E: Timed>(
-    mail: &mut [Vec<Signed<E>>],
-    lists: &[Vec<Signed<E>>],
-) -> Result<(), AllocError>
+pub fn make_room_behind<T: Copy>(mail: &mut [Vec<T>], lists: &[Vec<T>]) -> Result<(), AllocError>
     ensures same { items mail.new ≡ items mail.old }
     ensures room { OnOk result (HasRoomBehind mail.new (items lists.now)) }
     ensures wanted { OnErr result ((w : ℕ) × (0 < length (slice_index_or (items lists.now) w []))) }
@@ -28,7 +25,7 @@ pub fn make_room_behind<E: Timed>(
 }
 
 /// Makes room for so many more messages in a list that has some.
-fn make_room_for<E: Timed>(mail: &mut Vec<Signed<E>>, count: usize) -> Result<(), AllocError>
+fn make_room_for<T: Copy>(mail: &mut Vec<T>, count: usize) -> Result<(), AllocError>
     ensures same { mail.new.items ≡ mail.old.items }
     ensures room { OnOk result (0 < vec_len mail.new → vec_len mail.new + count ≤ vec_capacity mail.new) }
     ensures wanted { OnErr result (0 < count) }
@@ -66,7 +63,7 @@ pub fn join_all<E: Timed>(
 
 /// Puts a list behind another, where there is room, and leaves it empty. Where the other is empty they are
 /// exchanged, so that no message moves.
-fn join<E: Timed>(mail: &mut Vec<Signed<E>>, list: &mut Vec<Signed<E>>)
+fn join<T: Copy>(mail: &mut Vec<T>, list: &mut Vec<T>)
     requires room { 0 < vec_len mail.old → vec_len mail.old + vec_len list.old ≤ vec_capacity mail.old }
     ensures mail { mail.new.items ≡ mail.old.items ++ list.old.items }
     ensures list { list.new.items ≡ [] }

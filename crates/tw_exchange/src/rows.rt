@@ -4,11 +4,9 @@ ghost use Rattle.std.specs.Prelude.{◌≡◌, [], IfOk, replicate};
 ghost use Rattle.tw_exchange.specs.Rows.{items};
 
 use std::alloc::{AllocError, Global};
-use tw_process::Timed;
-use tw_sim::Signed;
 
-/// No mail for any of so many workers.
-pub fn no_mail<E: Timed>(alloc: Global, workers: u32) -> Result<Vec<Vec<Signed<E>>>, AllocError>
+/// No mail for any of so many workers. What mail is of is of no concern here.
+pub fn no_mail<T: Copy>(alloc: Global, workers: u32) -> Result<Vec<Vec<T>>, AllocError>
     ensures { IfOk result (λ mail. items mail.items ≡ replicate workers []) }
 {
     let mut mail = Vec::new(alloc);

@@ -1,6 +1,10 @@
 use Rattle.std.proofs.Common.{arith}
 use Rattle.tw_exchange.proofs.Behind.{all_emptied, cleared, emptied}
+use Rattle.tw_exchange.proofs.Followed.{long_row}
 use Rattle.tw_exchange.proofs.joining.clear_all.Goals as goal
+
+pub bounds-times-worker : goal.bounds-times-worker
+bounds-times-worker g c = long_row g.E.Timed.parts c.loop-worker.times c.loop-worker.lists c.loop-worker.worker c.loop-worker.invariant.times (omega arith)
 
 pub loop-worker-preserved : goal.loop-worker-preserved
 loop-worker-preserved g c =

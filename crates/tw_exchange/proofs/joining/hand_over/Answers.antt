@@ -2,8 +2,15 @@ use Rattle.std.proofs.Common.{[], arith, length, map, set, get_or, ap, sym, ◌�
 use Rattle.std.proofs.lemmas.List.{get_or-map, map-set}
 use Rattle.tw_exchange.specs.Rows.{items, soonest_of}
 use Rattle.tw_exchange.specs.declared.mail.TheConstants.{NEVER}
+use Rattle.tw_exchange.proofs.Followed.{long_row}
 use Rattle.tw_exchange.proofs.Rooms.{items_at, items_set, length_items}
 use Rattle.tw_exchange.proofs.joining.hand_over.Goals as goal
+
+pub bounds-soonest-worker : goal.bounds-soonest-worker
+bounds-soonest-worker g c = long_row g.E.Timed.parts c.args.soonest.now c.args.mail.now c.args.worker c.requires.soonest c.requires.within
+
+pub returns-clause-value : goal.returns-clause-value
+returns-clause-value g c = ap (λ v. v.items) c.swap.ensures.y_after ∙ sym (items_at c.args.mail.now c.args.worker c.index-mail-worker.result c.requires.within)
 
 pub returns-clause-least : goal.returns-clause-least
 returns-clause-least g c =

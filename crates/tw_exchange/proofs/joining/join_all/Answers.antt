@@ -1,5 +1,6 @@
 use Rattle.std.proofs.Common.{arith, refl}
 use Rattle.tw_exchange.proofs.Behind.{all_joined, joins_next, none_left}
+use Rattle.tw_exchange.proofs.Followed.{long_row}
 use Rattle.tw_exchange.proofs.joining.join_all.Goals as goal
 
 pub loop-worker-init : goal.loop-worker-init
@@ -11,6 +12,13 @@ loop-worker-init g c = record {
   empty = λ k below. absurd (omega arith);
   past = λ k after. refl;
 }
+
+-- a place of the lists is one of the rows beside them
+pub bounds-soonest-worker : goal.bounds-soonest-worker
+bounds-soonest-worker g c = long_row g.E.Timed.parts c.loop-worker.soonest c.loop-worker.mail c.loop-worker.worker c.loop-worker.invariant.soonest_is (omega arith)
+
+pub bounds-times-worker : goal.bounds-times-worker
+bounds-times-worker g c = long_row g.E.Timed.parts c.loop-worker.times c.loop-worker.lists c.loop-worker.worker c.loop-worker.invariant.times_is (omega arith)
 
 pub loop-worker-preserved : goal.loop-worker-preserved
 loop-worker-preserved g c =

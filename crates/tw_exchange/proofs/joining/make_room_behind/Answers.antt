@@ -1,13 +1,9 @@
-use Rattle.std.proofs.Common.{ℕ, arith, Result, Ok, Err, ◌<◌, ◌∙◌, [], ap, get_or, length}
-use Rattle.std.specs.Prelude.{OnErr}
+use Rattle.std.proofs.Common.{ℕ, arith, ◌<◌, ◌∙◌, [], ap, get_or, length}
 use Rattle.tw_exchange.specs.Rows.{items}
 use Rattle.tw_exchange.proofs.Behind.{room_up_to}
+use Rattle.tw_exchange.proofs.Refusals.{on_err}
 use Rattle.tw_exchange.proofs.Rooms.{items_at, items_same}
 use Rattle.tw_exchange.proofs.joining.make_room_behind.Goals as goal
-
-on_err : {T E : Type 0} (Q : Type 0) (r : Result T E) → Q → OnErr r Q
-on_err Q (Ok x) q = tt
-on_err Q (Err e) q = q
 
 pub loop-worker-preserved : goal.loop-worker-preserved
 loop-worker-preserved g c =
@@ -16,7 +12,7 @@ loop-worker-preserved g c =
     let list = c.index-lists-worker.result in
     record {
       same = items_same step.mail step.worker c.make_room_for.new.mail c.index-mail-worker.result c.in_ok-make_room_for.ensures.same ∙ step.invariant.same;
-      room = room_up_to g.E.Timed.parts step.mail (items lists) step.worker c.make_room_for.new.mail step.invariant.room (λ some.
+      room = room_up_to step.mail (items lists) step.worker c.make_room_for.new.mail step.invariant.room (λ some.
           let room = c.in_ok-make_room_for.ensures.room some in
           let same = ap length (items_at lists step.worker list (omega arith)) in
           let there = ap (λ v. length v.items) c.index-lists-worker.is in

@@ -6,5 +6,5 @@ use Rattle.tw_exchange.proofs.joining.make_room_behind.Given as goal
 abbrev pub invariant-loop-worker : goal.invariant-loop-worker
 invariant-loop-worker g l = record {
   same : items l.mail ≡ items l.initial.mail;
-  room : HasRoomUpTo g.E.Timed.parts l.worker l.mail (items l.lists);
+  room : HasRoomUpTo l.worker l.mail (items l.lists);
 }

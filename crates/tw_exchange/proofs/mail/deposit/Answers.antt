@@ -1,13 +1,41 @@
-use Rattle.std.proofs.Common.{arith, ◌≡◌, ◌<◌, ◌∙◌, ◌++◌, ◌∷◌, [], length, map, min, get_or, ap, sym}
+use Rattle.std.proofs.Common.{arith, ◌≡◌, ◌<◌, ◌∙◌, ◌++◌, ◌∷◌, [], length, map, min, get_or, refl, ap, subst, sym}
 use Rattle.std.proofs.lemmas.List.{drop_all}
 use Rattle.tw_exchange.specs.AnyBoard.{followed, worker_for}
 use Rattle.tw_exchange.specs.Owners.{list_of}
 use Rattle.tw_exchange.specs.Rows.{items, soonest_of}
-use Rattle.tw_exchange.proofs.Followed.{followed_nil, pushed, soonest_pushed}
-use Rattle.tw_exchange.proofs.Homes.{alike, all_home, home_at}
+use Rattle.tw_exchange.proofs.Followed.{followed_nil, long_row, pushed, soonest_pushed}
+use Rattle.tw_exchange.proofs.Homes.{alike, all_home, home_at, home_now}
+use Rattle.tw_exchange.proofs.Refusals.{on_err}
 use Rattle.tw_exchange.proofs.Rooms.{items_same}
 use Rattle.tw_exchange.proofs.mail.deposit.Goals as goal
 use Rattle.tw_sim.specs.declared.machine.Signed.{Signed}
+
+pub loop-message-init : goal.loop-message-init
+loop-message-init g c = record { mail = refl; soonest = c.requires.soonest }
+
+pub worker_for-worker-requires : goal.worker_for-worker-requires
+worker_for-worker-requires g c = subst (λ n. 0 < n) (sym c.loop-message.auto.mail) c.requires.some
+
+-- the worker of the message at hand is one of them
+pub bounds-mail-worker : goal.bounds-mail-worker
+bounds-mail-worker g c =
+    let step = c.loop-message in
+    home_now g.E.Timed.parts (list_of c.args.owners.now) (length step.mail) (length c.args.mail.now) c.args.out.now step.message-index c.worker_for-worker.result c.dst.result c.message-item.result
+    step.auto.mail c.worker_for-worker.ensures c.dst.ensures c.message-item.is c.requires.home c.loop-message-test.true
+
+pub bounds-soonest-worker : goal.bounds-soonest-worker
+bounds-soonest-worker g c =
+    let step = c.loop-message in
+    long_row g.E.Timed.parts step.soonest step.mail c.worker_for-worker.result step.invariant.soonest
+    (home_now g.E.Timed.parts (list_of c.args.owners.now) (length step.mail) (length c.args.mail.now) c.args.out.now step.message-index c.worker_for-worker.result c.dst.result c.message-item.result
+    step.auto.mail c.worker_for-worker.ensures c.dst.ensures c.message-item.is c.requires.home c.loop-message-test.true)
+
+pub bounds-soonest-worker-in-loop-message : goal.bounds-soonest-worker-in-loop-message
+bounds-soonest-worker-in-loop-message g c =
+    let step = c.loop-message in
+    long_row g.E.Timed.parts step.soonest step.mail c.worker_for-worker.result step.invariant.soonest
+    (home_now g.E.Timed.parts (list_of c.args.owners.now) (length step.mail) (length c.args.mail.now) c.args.out.now step.message-index c.worker_for-worker.result c.dst.result c.message-item.result
+    step.auto.mail c.worker_for-worker.ensures c.dst.ensures c.message-item.is c.requires.home c.loop-message-test.true)
 
 pub loop-message-preserved : goal.loop-message-preserved
 loop-message-preserved g c =
@@ -44,3 +72,9 @@ pub returns-in_err-push-clause-soonest : goal.returns-in_err-push-clause-soonest
 returns-in_err-push-clause-soonest g c =
     c.loop-message.invariant.soonest
     ∙ ap (map (soonest_of g.E.Timed.parts)) (sym (items_same c.loop-message.mail c.worker_for-worker.result c.push.new.self c.index-mail-worker.result c.in_err-push.ensures.items))
+
+pub returns-clause-soonest : goal.returns-clause-soonest
+returns-clause-soonest g c = c.loop-message.invariant.soonest
+
+pub returns-in_err-push-clause-wanted : goal.returns-in_err-push-clause-wanted
+returns-in_err-push-clause-wanted g c = let more = c.loop-message-test.true in on_err (0 < length c.args.out.now) c.from_residual.result (omega arith)

@@ -10,6 +10,8 @@ use Rattle.tw_exchange.specs.Rows.{behind, items, soonest_of}
 use Rattle.tw_exchange.specs.declared.exchange.AnyExchange.TheInside.{Inside}
 use Rattle.tw_exchange.proofs.Boards.{visited_rises}
 use Rattle.tw_exchange.proofs.Dealt.{behind_dealt, early_dealt, none_dealt}
+use Rattle.tw_exchange.proofs.Moves.{board_kept, exchange_kept}
+use Rattle.tw_exchange.proofs.Refusals.{on_err}
 use Rattle.tw_exchange.proofs.Visits.{IsPassedOn, board_after, exchange_after, handed_out, mail_for_all}
 use Rattle.tw_exchange.proofs.exchange.AnyExchange.pass_on_dealt.Goals as goal
 use Rattle.tw_exchange.proofs.exchange.AnyExchange.pass_on_dealt.Given.{Over}
@@ -82,6 +84,28 @@ passed_on g c out is =
       stop = refl;
       halted = refl;
     }
+
+-- where memory is refused, the rows have the same items
+pub invariant_of-self : goal.invariant_of-self
+invariant_of-self g c =
+    exchange_kept g.E.Timed.parts c.self.inside c.join_to.new.mail c.join_to.new.soonest (c.join_to.auto.mail ∙ c.deref_mut.ensures.len) (c.join_to.auto.soonest ∙ c.deref_mut-2.ensures.len)
+    (c.in_err-join_to.ensures.err ∙ ap items c.deref_mut.ensures.value) c.join_to.ensures.soonest c.self.invariant
+
+pub returns-in_err-join_to-clause-err : goal.returns-in_err-join_to-clause-err
+returns-in_err-join_to-clause-err g c =
+    on_err _ c.from_residual.result (board_kept g.E.Timed.parts c.self.inside c.join_to.new.mail c.join_to.new.soonest (c.join_to.auto.mail ∙ c.deref_mut.ensures.len)
+    (c.in_err-join_to.ensures.err ∙ ap items c.deref_mut.ensures.value) ∙ c.self.view_is)
+
+pub hand_over-least-requires-clause-soonest : goal.hand_over-least-requires-clause-soonest
+hand_over-least-requires-clause-soonest g c =
+    let a = c.self.inside in
+    let rows = c.deref_mut-3.ensures.value ∙ with_items_is a.mail c.join_to.new.mail (c.join_to.auto.mail ∙ c.deref_mut.ensures.len) in
+    c.deref_mut-4.ensures.value
+    ∙ (with_items_is a.soonest c.join_to.new.soonest (c.join_to.auto.soonest ∙ c.deref_mut-2.ensures.len)
+    ∙ (c.join_to.ensures.soonest ∙ ap (λ m. map (soonest_of g.E.Timed.parts) (items m)) (sym rows)))
+
+pub report_with-requires : goal.report_with-requires
+report_with-requires g c = c.hand_over-least.ensures.least ∙ ap (soonest_of g.E.Timed.parts) (sym c.deref.ensures.value)
 
 pub invariant_of-self-2 : goal.invariant_of-self-2
 invariant_of-self-2 g c =

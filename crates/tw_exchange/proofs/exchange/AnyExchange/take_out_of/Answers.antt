@@ -2,8 +2,9 @@ use Rattle.std.proofs.Common.{◌++◌, ◌∙◌, [], ap, filter, get_or, set}
 use Rattle.tw_exchange.specs.AnyBoard.{all_mail, is_to, is_to_another, who, without_mail}
 use Rattle.tw_exchange.specs.Inside.{board_of}
 use Rattle.tw_exchange.specs.Rows.{items}
-use Rattle.tw_exchange.proofs.Moves.{board_taken, exchange_kept, exchange_taken, taken_from, with_mail}
+use Rattle.tw_exchange.proofs.Moves.{board_kept, board_taken, exchange_kept, exchange_taken, taken_from, with_mail}
 use Rattle.tw_exchange.proofs.Moving.{none_after, taken_out}
+use Rattle.tw_exchange.proofs.Refusals.{on_err}
 use Rattle.tw_exchange.proofs.exchange.AnyExchange.take_out_of.Goals as goal
 
 pub invariant_of-self : goal.invariant_of-self
@@ -11,6 +12,11 @@ invariant_of-self g c =
     let a = c.self.inside in
     exchange_kept g.E.Timed.parts a c.take_out.new.mail c.take_out.new.soonest_times (c.take_out.auto.mail ∙ c.deref_mut.ensures.len) (c.take_out.auto.soonest_times ∙ c.deref_mut-2.ensures.len)
     (c.in_err-take_out.ensures.err ∙ ap items c.deref_mut.ensures.value) c.take_out.ensures.soonest c.self.invariant
+
+pub returns-in_err-take_out-clause-err : goal.returns-in_err-take_out-clause-err
+returns-in_err-take_out-clause-err g c =
+    on_err _ c.from_residual.result (board_kept g.E.Timed.parts c.self.inside c.take_out.new.mail c.take_out.new.soonest_times (c.take_out.auto.mail ∙ c.deref_mut.ensures.len)
+    (c.in_err-take_out.ensures.err ∙ ap items c.deref_mut.ensures.value) ∙ c.self.view_is)
 
 pub invariant_of-self-2 : goal.invariant_of-self-2
 invariant_of-self-2 g c =
