@@ -1,21 +1,23 @@
 //! What the lines so far have given.
 
-ghost use Rattle.std.specs.Prelude.{◌≡◌, ℕ, if◌then◌else◌, OnOk};
+ghost use Rattle.std.specs.Prelude.{◌≡◌, ℕ, OnOk};
 ghost use Rattle.tw_model.specs.Memory.{IsUnlessMemory, map_fault};
-ghost use Rattle.tw_model.specs.declared.case.Scene.TheVariants as AScene;
 ghost use Rattle.tw_lines.specs.LineReader.{left_by};
 ghost use Rattle.tw_text.specs.Drafts.{before_paths, before_scenes, closed, node_in, nodes_in, place_of};
-ghost use Rattle.tw_text.specs.Drafts.{result_items, step_by, step_said, with_link, with_nodes, with_path, with_scene, with_scenes};
+ghost use Rattle.tw_text.specs.Drafts.{result_items, step_by, step_said, with_link, with_nodes, with_path, with_scenes};
 ghost use Rattle.tw_text.specs.FaultTable.{version_in};
-ghost use Rattle.tw_text.specs.Statements.{end_line, link_line, nodes_line, path_line, scene_line, scene_said, statement_with};
+ghost use Rattle.tw_text.specs.Statements.{end_line, link_line, nodes_line, path_line, statement_with};
 ghost use Rattle.tw_text.specs.declared.draft.Draft.TheVariants as AsDraft;
 
+mod scenes;
+
 use crate::keyword::Keyword;
+use scenes::take_scene;
 use std::alloc::{AllocError, Global};
 use std::mem;
 use tw_instance::{Case, Instance};
 use tw_lines::LineFault;
-use tw_model::{Link, OrMemory, PermittedPath, Rule, Scene};
+use tw_model::{Link, OrMemory, PermittedPath, Rule};
 
 /// What the lines so far have given, by what may follow: from line 1 on the version of the text too.
 #[derive(Drop)]
@@ -71,36 +73,6 @@ pub(crate) fn take_statement(
         (Keyword::Path, [owner, nodes @ ..]) => take_path(alloc, draft, ended, *owner, nodes),
         (Keyword::End, []) => take_end(alloc, draft, ended),
         _ => take_scene(alloc, draft, keyword, numbers, ended),
-    }
-}
-
-/// Adds a scenario line of this keyword and these numbers, or answers the lowest fault of the line.
-fn take_scene(
-    alloc: Global,
-    draft: &mut Draft,
-    keyword: Keyword,
-    numbers: &[u64],
-    ended: bool,
-) -> Result<(), OrMemory<LineFault>>
-    ensures { IsUnlessMemory (left_by result draft.new) (step_said draft.old (scene_said keyword numbers.now) ended) }
-{
-    match (keyword, numbers) {
-        (Keyword::Fail, [time, first, second]) => take_change(
-            alloc, draft, ended, false, *time, *first, *second,
-        ),
-        (Keyword::Restore, [time, first, second]) => take_change(
-            alloc, draft, ended, true, *time, *first, *second,
-        ),
-        (Keyword::Swap, [time, node, first, second]) => take_swap(
-            alloc, draft, ended, *time, *node, *first, *second,
-        ),
-        (Keyword::Forbid, [time, node, line]) => take_bar(
-            alloc, draft, ended, true, *time, *node, *line,
-        ),
-        (Keyword::Allow, [time, node, line]) => take_bar(
-            alloc, draft, ended, false, *time, *node, *line,
-        ),
-        _ => Err(OrMemory::Fault(LineFault::Word)),
     }
 }
 
@@ -231,146 +203,6 @@ pub(crate) fn add_path(
     ensures { (version : ℕ) → IsUnlessMemory (left_by result (AsDraft.Paths version instance.new)) (with_path version instance.old path) }
 {
     match instance.add_path(path) {
-        Ok(()) => Ok(()),
-        Err(refusal) => Err(rule_fault(refusal)),
-    }
-}
-
-/// Adds a repair of a link, or else a failure, where a scene may follow.
-fn take_change(
-    alloc: Global,
-    draft: &mut Draft,
-    ended: bool,
-    repairs: bool,
-    time: u64,
-    first: u64,
-    second: u64,
-) -> Result<(), OrMemory<LineFault>>
-    ensures { IsUnlessMemory (left_by result draft.new) (step_by draft.old (scene_line (if repairs then AScene.Restore time first second else AScene.Fail time first second)) ended) }
-{
-    open_scenes(alloc, draft, ended)?;
-    let Draft::Scenes(_, case) = draft else {
-        return Err(OrMemory::Fault(LineFault::Order));
-    };
-    add_change(case, repairs, time, first, second)
-}
-
-/// Adds a repair of a link to the case, or else a failure.
-fn add_change(
-    case: &mut Case,
-    repairs: bool,
-    time: u64,
-    first: u64,
-    second: u64,
-) -> Result<(), OrMemory<LineFault>>
-    ensures { (version : ℕ) → IsUnlessMemory (left_by result (AsDraft.Scenes version case.new)) (with_scene version case.old (if repairs then AScene.Restore time first second else AScene.Fail time first second)) }
-{
-    let first = node_in(case.instance(), first)?;
-    let second = node_in(case.instance(), second)?;
-    if repairs {
-        return add_scene(
-            case,
-            Scene::Restore {
-                time,
-                first,
-                second,
-            },
-        );
-    }
-    add_scene(
-        case,
-        Scene::Fail {
-            time,
-            first,
-            second,
-        },
-    )
-}
-
-/// Adds an exchange of two places of an order, where a scene may follow.
-fn take_swap(
-    alloc: Global,
-    draft: &mut Draft,
-    ended: bool,
-    time: u64,
-    node: u64,
-    first: u64,
-    second: u64,
-) -> Result<(), OrMemory<LineFault>>
-    ensures { IsUnlessMemory (left_by result draft.new) (step_by draft.old (scene_line (AScene.Swap time node first second)) ended) }
-{
-    open_scenes(alloc, draft, ended)?;
-    let Draft::Scenes(_, case) = draft else {
-        return Err(OrMemory::Fault(LineFault::Order));
-    };
-    add_swap(case, time, node, first, second)
-}
-
-/// Adds an exchange of two places of an order to the case.
-fn add_swap(
-    case: &mut Case,
-    time: u64,
-    node: u64,
-    first: u64,
-    second: u64,
-) -> Result<(), OrMemory<LineFault>>
-    ensures { (version : ℕ) → IsUnlessMemory (left_by result (AsDraft.Scenes version case.new)) (with_scene version case.old (AScene.Swap time node first second)) }
-{
-    let node = node_in(case.instance(), node)?;
-    let (first, second) = (place_of(first), place_of(second));
-    add_scene(
-        case,
-        Scene::Swap {
-            time,
-            node,
-            first,
-            second,
-        },
-    )
-}
-
-/// Forbids a path, or else allows it again, where a scene may follow.
-fn take_bar(
-    alloc: Global,
-    draft: &mut Draft,
-    ended: bool,
-    forbids: bool,
-    time: u64,
-    node: u64,
-    line: u64,
-) -> Result<(), OrMemory<LineFault>>
-    ensures { IsUnlessMemory (left_by result draft.new) (step_by draft.old (scene_line (if forbids then AScene.Forbid time node line else AScene.Allow time node line)) ended) }
-{
-    open_scenes(alloc, draft, ended)?;
-    let Draft::Scenes(_, case) = draft else {
-        return Err(OrMemory::Fault(LineFault::Order));
-    };
-    add_bar(case, forbids, time, node, line)
-}
-
-/// Forbids a path of the case, or else allows it again.
-fn add_bar(
-    case: &mut Case,
-    forbids: bool,
-    time: u64,
-    node: u64,
-    line: u64,
-) -> Result<(), OrMemory<LineFault>>
-    ensures { (version : ℕ) → IsUnlessMemory (left_by result (AsDraft.Scenes version case.new)) (with_scene version case.old (if forbids then AScene.Forbid time node line else AScene.Allow time node line)) }
-{
-    let node = node_in(case.instance(), node)?;
-    let line = place_of(line);
-    if forbids {
-        return add_scene(case, Scene::Forbid { time, node, line });
-    }
-    add_scene(case, Scene::Allow { time, node, line })
-}
-
-/// Adds a scene to the case.
-fn add_scene(case: &mut Case, scene: Scene) -> Result<(), OrMemory<LineFault>>
-    ensures { (version : ℕ) → IsUnlessMemory (left_by result (AsDraft.Scenes version case.new)) (with_scene version case.old scene) }
-{
-    match case.add(scene) {
         Ok(()) => Ok(()),
         Err(refusal) => Err(rule_fault(refusal)),
     }

@@ -1,5 +1,5 @@
 use Rattle.tw_text.proofs.Adding.{allow_taken, forbid_taken, node_is}
-use Rattle.tw_text.proofs.draft.add_bar.Goals as goal
+use Rattle.tw_text.proofs.draft.scenes.add_bar.Goals as goal
 
 pub returns-then-forbids : goal.returns-then-forbids
 returns-then-forbids c =

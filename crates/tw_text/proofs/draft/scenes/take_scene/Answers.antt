@@ -1,5 +1,5 @@
 use Rattle.tw_text.proofs.Adding.{allow_said, fail_said, forbid_said, restore_said, swap_said}
-use Rattle.tw_text.proofs.draft.take_scene.Goals as goal
+use Rattle.tw_text.proofs.draft.scenes.take_scene.Goals as goal
 
 pub returns-in-Fail-len3 : goal.returns-in-Fail-len3
 returns-in-Fail-len3 c = rw (fail_said c.args.keyword c.args.numbers.now c.in-Fail-len3.is-0 c.in-Fail-len3.len_at_least c.in-Fail-len3.len_below) c.take_change.ensures

@@ -1,5 +1,5 @@
 use Rattle.tw_text.proofs.Adding.{node_is, swap_taken}
-use Rattle.tw_text.proofs.draft.add_swap.Goals as goal
+use Rattle.tw_text.proofs.draft.scenes.add_swap.Goals as goal
 
 pub returns : goal.returns
 returns c =

@@ -3,7 +3,7 @@ use Rattle.tw_model.specs.Rules.{scene_fault}
 use Rattle.tw_model.specs.declared.limits.TheConstants.{LATEST_VERSION}
 use Rattle.tw_text.specs.declared.draft.Draft.TheVariants.{Scenes}
 use Rattle.tw_text.proofs.Adding.{refused}
-use Rattle.tw_text.proofs.draft.add_scene.Goals as goal
+use Rattle.tw_text.proofs.draft.scenes.add_scene.Goals as goal
 
 pub returns-in-Err : goal.returns-in-Err
 returns-in-Err c =
