@@ -13,7 +13,7 @@ use Rattle.tw_model.specs.declared.state.Row.{Row}
 use Rattle.tw_model.specs.Net.{Net}
 use Rattle.tw_model.specs.State.{IsState, Router, has_peer, hop, no_hop, row, slot}
 use Rattle.tw_model.specs.Effect.{Reaction, tell, update_to, with_repaired_link, with_row, without_sends}
-use Rattle.tw_handlers.specs.declared.record.UndoRecord.{UndoRecord}
+use Rattle.tw_event.specs.declared.record.UndoRecord.{UndoRecord}
 use Rattle.tw_handlers.specs.Calls.{Reacts, effect_at, with_count}
 use Rattle.tw_handlers.proofs.Before.{has_slot}
 use Rattle.tw_handlers.proofs.Reacting.{body_does}

@@ -6,7 +6,7 @@ use Rattle.tw_event.specs.declared.event.Body.TheVariants.{Start, Fail, Restore,
 use Rattle.tw_event.specs.declared.event.Event.{Event}
 use Rattle.tw_model.specs.Net.{Net}
 use Rattle.tw_model.specs.State.{State}
-use Rattle.tw_handlers.specs.declared.record.UndoRecord.{UndoRecord}
+use Rattle.tw_event.specs.declared.record.UndoRecord.{UndoRecord}
 use Rattle.tw_handlers.specs.Undo.{sends_again, sends_of_settling}
 use Rattle.tw_handlers.proofs.undoing.send_again.Goals as goal
 
