@@ -1,9 +1,13 @@
 pub mod Lists
 pub mod Rules
 pub mod Members
-pub mod Openings
 pub mod Shares
 pub mod Stages
 pub mod Turns
 pub mod Warps
 pub mod Chunks
+pub mod Lone
+pub mod InTurn
+pub mod Cuts
+pub mod Waits
+pub mod Ways

@@ -1,6 +1,7 @@
 -- Lists by index (own).
-use Rattle.std.proofs.Common.{◌≡◌, ℕ, zero, suc, ◌+◌, ◌-◌, ◌<◌, ◌≤◌, List, [], ◌∷◌, ◌++◌, Some, Option, IsSome, ◌↔◌, length, length-append, map, remove, set, None, slice_get, refl, ap, sym, ◌∙◌, subst, take, Result, Ok, Err, OnErr, OnOk, ◌⊎◌, inl, inr, arith}
+use Rattle.std.proofs.Common.{◌≡◌, Bool, true, false, ℕ, zero, suc, ◌+◌, ◌-◌, ◌<◌, ◌≤◌, List, [], ◌∷◌, ◌++◌, Some, Option, IsSome, ◌↔◌, length, length-append, map, remove, set, None, slice_get, refl, ap, sym, ◌∙◌, subst, take, Result, Ok, Err, OnErr, OnOk, ◌⊎◌, inl, inr, arith}
 use Rattle.std.proofs.lemmas.Bool.{cases_lt}
+use Rattle.std.specs.Bool.{OnTrue}
 use Rattle.std.specs.List.{AllByRecursion}
 use Rattle.std.specs.Option.{option_to_list}
 
@@ -12,6 +13,16 @@ on_ok (Err u) f h = tt
 pub on_err : {T F A B : Type 0} (r : Result T F) → (A → B) → OnErr r A → OnErr r B
 on_err (Ok u) f h = tt
 on_err (Err u) f h = f h
+
+-- what holds whatever is answered
+pub if_err : {T F A : Type 0} (r : Result T F) → A → OnErr r A
+if_err (Ok u) h = tt
+if_err (Err u) h = h
+
+-- what holds where a test is passed
+pub on_yes : {A : Type 0} (b : Bool) → b ≡ true → OnTrue b A → A
+on_yes true is h = h
+on_yes false is h = cc
 
 -- what holds of each stop where an answer is given
 pub on_ok_each : {T F B : Type 0} {A : ℕ → Type 0} (r : Result T F) → (((n : ℕ) → A n) → B) → ((n : ℕ) → OnOk r (A n)) → OnOk r B

@@ -1,3 +1,4 @@
+pub mod Alone
 pub mod Members
 pub mod Ruled
 pub mod Shares

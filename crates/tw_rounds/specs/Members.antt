@@ -63,6 +63,13 @@ module _ {M E : Type 0} where
   abbrev pub sent_on : Mailed M E → Mailed M E
   sent_on x = record x { outbox = [] }
 
+  -- all that it has handled is committed, and nothing that it has sent is left with it
+  pub record IsSettled (x : Mailed M E) : Type 0 where
+    pub ahead : x.process.ahead ≡ []
+    pub flight : x.process.flight ≡ []
+    pub mail : x.mail ≡ []
+    pub outbox : x.outbox ≡ []
+
 module _ {S M E : Type 0} (m : Simulation S E) where
   -- an event more waits for a process
   abbrev pub awaiting : E → Mailed M E → Mailed M E

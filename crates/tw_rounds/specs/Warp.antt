@@ -1,8 +1,10 @@
 -- A parallel run of a model, as its user sees it (own, after Jefferson, Virtual Time, 1985).
-use Rattle.std.specs.Prelude.{ℕ, ◌≡◌, ◌<◌, true, List, [], Some, slice_get}
+use Rattle.std.specs.Prelude.{ℕ, zero, suc, ◌≡◌, ◌<◌, ◌≤◌, true, List, [], ◌∷◌, Option, None, Some, slice_get}
 use Rattle.std.specs.Option.{option_map_or}
 use Rattle.tw_core.specs.Steps.{first_pending}
 use Rattle.tw_engine.specs.Process.{Logical, history, process_core}
+use Rattle.tw_rounds.specs.Alone.{bound_of}
+use Rattle.tw_sequential.specs.Run.{Run}
 use Rattle.tw_sim.specs.Seq.{log}
 use Rattle.tw_sim.specs.Simulation.{Simulation, below, only, state}
 
@@ -54,3 +56,32 @@ module _ {S M E : Type 0} (m : Simulation S E) where
     pub process : Logical M E
     pub there : slice_get w.processes number ≡ Some process
     pub stuck : IsStuckAt w.bound process
+
+  -- ---- the two ways in which it goes on
+
+  -- process r of a run by one thread alone, which can undo nothing
+  abbrev pub process_of : Run M E → ℕ → Logical M E
+  process_of run r = record { model = run.model; number = r; ahead = []; past = only m r run.log; pending = only m r run.rest; kept = []; flight = []; done = 0; bound = 0 }
+
+  -- so many of them, from this number on
+  abbrev pub processes_from : Run M E → ℕ → ℕ → List (Logical M E)
+  processes_from run zero r = []
+  processes_from run (suc n) r = process_of run r ∷ processes_from run n (suc r)
+
+  -- the processes of a run that goes on alone, or in rounds
+  abbrev pub processes_in : Option (Run M E) → Option (Warp M E) → List (Logical M E)
+  processes_in (Some run) rounds = processes_from run m.routers 0
+  processes_in None (Some w) = w.processes
+  processes_in None None = []
+
+  -- its bound
+  abbrev pub bound_in : Option (Run M E) → Option (Warp M E) → ℕ
+  bound_in (Some run) rounds = bound_of m run
+  bound_in None (Some w) = w.bound
+  bound_in None None = 0
+
+  -- it is of this model, has come to no later stop than this one, and goes on in one way
+  abbrev pub GoesOneWay : M → ℕ → Option (Run M E) → Option (Warp M E) → Type 0
+  GoesOneWay model stop (Some run) None = (run.model ≡ model) × (run.stop ≤ stop)
+  GoesOneWay model stop None (Some w) = (w.model ≡ model) × (w.stop ≤ stop)
+  GoesOneWay model stop _ _ = ⊥

@@ -10,17 +10,20 @@
 //! that a thread runs.
 #![tactic(auto)]
 
+mod alone;
 mod counts;
+mod course;
 mod dealing;
 mod least;
 mod limits;
 mod member;
-mod opening;
+mod rounds;
 mod schedule;
 mod sent;
 mod share;
 mod time_warp;
 mod turning;
+mod waiting;
 mod window;
 
 pub use counts::Counts;

@@ -1,15 +1,19 @@
 //! A logical process with what its share has to send on.
 
-ghost use Rattle.std.specs.Prelude.{ℕ, ◌+◌, ◌^◌, ◌≡◌, ◌<◌, ◌≤◌, ◌++◌, ◌∷◌, [], true, IfOk, IsErrOf, OnErr, OnOk};
+ghost use Rattle.std.specs.Prelude.{ℕ, ◌+◌, ◌^◌, ◌≡◌, ◌<◌, ◌≤◌, ◌++◌, ◌∷◌, [], true, drop, vec_capacity, vec_len, IfOk, IsErrOf, OnErr, OnOk};
+ghost use Rattle.std.specs.Bool.{OnTrue};
 ghost use Rattle.tw_core.specs.Steps.{IsRolledBack, after_arrival};
-ghost use Rattle.tw_engine.specs.Process.{IsSameProcess, process_core};
+ghost use Rattle.tw_engine.specs.Past.{log_after};
+ghost use Rattle.tw_engine.specs.Process.{IsSameProcess, handled_in_turn, process_core};
+ghost use Rattle.tw_pending.specs.Order.{is_before};
 ghost use Rattle.tw_process.specs.Behaviour.{simulation_of};
 ghost use Rattle.tw_process.specs.declared.refused.Refused.TheVariants.{CounterFull};
-ghost use Rattle.tw_rounds.specs.Members.{IsFullBefore, IsSound, KeepsTo, awaiting, handed, beginning_of, place_of, raised, sent_on, taken_out};
+ghost use Rattle.tw_rounds.specs.Members.{IsFullBefore, IsSettled, IsSound, KeepsTo, awaiting, handed, beginning_of, place_of, raised, sent_on, taken_out};
 ghost use Rattle.tw_rounds.specs.Shares.{on_way};
 ghost use Rattle.tw_rounds.specs.Times.{earliest};
 ghost use Rattle.tw_rule.specs.Place.{NoneLooseBefore};
-ghost use Rattle.tw_sim.specs.Simulation.{IsLawful};
+ghost use Rattle.tw_sim.specs.Ordered.{insert_all};
+ghost use Rattle.tw_sim.specs.Simulation.{IsLawful, only, state, times};
 
 use crate::counts::Counts;
 use crate::sent::Sent;
@@ -17,7 +21,8 @@ use std::alloc::{AllocError, Global};
 use std::marker::Model;
 use std::mem;
 use tw_core::Refusal;
-use tw_engine::{LogicalProcess, Stopped, Unreceived};
+use tw_engine::{LogicalProcess, Progress, Stopped, Unreceived};
+use tw_pending::Pending;
 use tw_process::{ProcessModel, Refused, Timed};
 use tw_sim::Signed;
 
@@ -57,8 +62,8 @@ impl<'a, M: ProcessModel> Member<'a, M> {
         })
     }
 
-    /// An opening event waits for it. Where there is no memory nothing changes.
-    pub(crate) fn add_opening(&mut self, event: M::Event) -> Result<(), AllocError>
+    /// An event waits for it. Where there is no memory nothing changes.
+    pub(crate) fn add_pending(&mut self, event: M::Event) -> Result<(), AllocError>
         requires own { M.Event.parts.dst event ≡ self.old.process.number }
         requires suit { (M.behaviour self.old.process.model).suits event ≡ true }
         ensures ok { OnOk result (self.new ≡ awaiting (simulation_of M.Event.parts M.Event.cmp (M.behaviour self.old.process.model)) event self.old) }
@@ -84,6 +89,59 @@ impl<'a, M: ProcessModel> Member<'a, M> {
         self.sent.refused
     }
 
+    /// Handles an event in the sequential run's own turn, and commits it at once. After an error all is as it was.
+    #[inline(always)]
+    pub(crate) fn handle_in_turn(
+        &mut self,
+        event: &M::Event,
+        progress: Progress,
+        pending: &mut Pending<M::Event>,
+        sends: &mut Vec<M::Event>,
+    ) -> Result<(), Refused>
+        requires settled { self.old.process.ahead ≡ [] }
+        requires own { M.Event.parts.dst event.now ≡ self.old.process.number }
+        requires suits { (M.behaviour self.old.process.model).suits event.now ≡ true }
+        requires time { M.Event.parts.time event.now < (M.behaviour self.old.process.model).latest }
+        requires turn { let m = simulation_of M.Event.parts M.Event.cmp (M.behaviour self.old.process.model) in
+            only m self.old.process.number (log_after m progress.since progress.turns) ≡ event.now ∷ self.old.process.past }
+        requires room { (M.behaviour self.old.process.model).most ≤ vec_capacity sends.old }
+        requires empty { vec_len sends.old ≡ 0 }
+        ensures room { vec_capacity sends.old ≤ vec_capacity sends.new }
+        ensures empty { vec_len sends.new ≡ 0 }
+        ensures ok { let m = simulation_of M.Event.parts M.Event.cmp (M.behaviour self.old.process.model) in
+            OnOk result (self.new ≡ record self.old { process = handled_in_turn m event.now self.old.process }) }
+        ensures err { OnErr result (self.new ≡ self.old) }
+        ensures pending { let m = simulation_of M.Event.parts M.Event.cmp (M.behaviour self.old.process.model) in
+            OnOk result (pending.new ≡ insert_all (is_before M.Event.cmp) (m.sends (state m self.old.process.number self.old.process.past) event.now) (drop 1 pending.old)) }
+        ensures kept { OnErr result (pending.new ≡ pending.old) }
+        ensures full { let m = simulation_of M.Event.parts M.Event.cmp (M.behaviour self.old.process.model) in
+            IsErrOf result CounterFull → (M.behaviour self.old.process.model).full (state m self.old.process.number self.old.process.past) event.now ≡ true }
+    {
+        self.process.handle_in_turn(event, progress, pending, sends)
+    }
+
+    /// Copies what waits for it behind other events, in no order. Where there is no memory nothing changes.
+    pub(crate) fn copy_pending(&self, events: &mut Vec<M::Event>) -> Result<(), AllocError>
+        ensures ok { let m = simulation_of M.Event.parts M.Event.cmp (M.behaviour self.now.process.model) in
+            OnOk result ((e : M.Event) → times m e events.new.items ≡ times m e self.now.process.pending + times m e events.old.items) }
+    {
+        self.process.copy_pending(events)
+    }
+
+    /// Nothing waits for it any more.
+    pub(crate) fn clear_pending(&mut self)
+        ensures { self.new ≡ record self.old { process = record self.old.process { pending = [] } } }
+    {
+        self.process.clear_pending();
+    }
+
+    /// Whether all that it has handled is committed, and nothing that it has sent is left with it.
+    pub(crate) fn is_settled(&self) -> bool
+        ensures { OnTrue result (IsSettled self.now) }
+    {
+        self.process.is_settled() && self.sent.far.is_empty() && self.sent.near.is_empty()
+    }
+
     /// It begins a round: it learns the bound, and commits.
     pub(crate) fn begin_round(&mut self, bound: u64) -> Result<(), AllocError>
         ensures kept { KeepsTo (simulation_of M.Event.parts M.Event.cmp (M.behaviour self.old.process.model)) 0 (raised bound self.old) self.new }
@@ -94,7 +152,7 @@ impl<'a, M: ProcessModel> Member<'a, M> {
     }
 
     /// It learns the bound.
-    fn raise_bound(&mut self, bound: u64)
+    pub(crate) fn raise_bound(&mut self, bound: u64)
         ensures { self.new ≡ raised bound self.old }
     {
         self.process.raise_bound(bound);

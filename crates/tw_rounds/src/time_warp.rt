@@ -1,60 +1,52 @@
 //! A parallel run of a model.
 
-ghost use Rattle.std.specs.Prelude.{ℕ, ◌≡◌, ◌<◌, ◌≤◌, IfOk, IsErrOf, OnOk, max};
+ghost use Rattle.std.specs.Prelude.{◌≡◌, ◌<◌, ◌≤◌, IfOk, max};
 ghost use Rattle.tw_process.specs.Behaviour.{simulation_of};
-ghost use Rattle.tw_process.specs.declared.refused.Refused.TheVariants.{CounterFull};
-ghost use Rattle.tw_rounds.specs.Warp.{HasRun, IsOpening, IsRight, IsSameRun, IsStuck, handled};
+ghost use Rattle.tw_rounds.specs.Warp.{HasRun, IsOpening, IsRight, IsSameRun, handled};
 ghost use Rattle.tw_sim.specs.Seq.{at};
 ghost use Rattle.tw_sim.specs.Simulation.{state};
 
+mod running;
+
+use crate::alone::Alone;
 use crate::counts::Counts;
-use crate::dealing::{count_round, deal, refused_in, send_all, tell};
-use crate::least::{least_of, least_told};
-use crate::member::{Member, least_among};
-use crate::opening::open_all;
-use crate::turning::{Round, turn_all};
-use crate::window::{Pace, limit_of, share_of};
+use crate::course::Course;
+use crate::rounds::Rounds;
+use crate::window::Pace;
 use std::alloc::{AllocError, Global};
 use std::marker::Model;
-use std::sync::Wait;
-use std::thread::Threads;
-use tw_process::laws::model_is_lawful;
-use tw_process::{ProcessModel, Refused};
-use tw_sim::Signed;
+use tw_process::ProcessModel;
 
-/// A parallel run of a model, as far as it has come: its logical processes run ahead of one another, and are rolled
-/// back where a message comes late.
+/// A parallel run of a model, as far as it has come.
 ///
-/// It takes back at once what undone events had sent (aggressive cancellation). A process may handle 2^64 events that
-/// it has not committed, as far as there is memory; events that are committed are kept, without their notes.
+/// One thread alone goes on, in the sequential run's own order, or all processes in rounds, each share of them in a thread:
+/// they run ahead of one another, and are rolled back where a message comes late. It takes back at once what undone events
+/// had sent (aggressive cancellation).
 #[derive(Drop)]
 pub struct TimeWarp<'a, M: ProcessModel> {
     model: &'a M,
-    members: Vec<Member<'a, M>>,
-    // Empty in a round, but after want of memory.
-    flight: Vec<Signed<M::Event>>,
-    bound: u64,
     stop: u64,
+    // One of the two is there.
+    alone: Option<Alone<'a, M>>,
+    rounds: Option<Rounds<'a, M>>,
+    course: Course,
     pace: Pace,
-    // Of the last round.
-    threads: usize,
-    share: usize,
+    // Up to the last change of the way.
     counts: Counts,
 }
 
 impl<'a, M: ProcessModel> Model for TimeWarp<'a, M> {
-    ghost use Rattle.std.specs.Prelude.{◌<◌, ◌≤◌, map};
+    ghost use Rattle.std.specs.Prelude.{◌≤◌};
     ghost use Rattle.tw_process.specs.Behaviour.{simulation_of};
-    ghost use Rattle.tw_rounds.specs.Ruled.{AreRuled};
-    ghost use Rattle.tw_rounds.specs.Warp.{Warp};
+    ghost use Rattle.tw_rounds.specs.Warp.{GoesOneWay, Warp, bound_in, processes_in};
 
     ghost Value = { Warp M M.Event };
 
-    ghost view = { λ a. record { model = a.model.now; stop = a.stop; bound = a.bound; processes = map (λ x. x.process) a.members.items } };
+    ghost view = { λ a. let m = simulation_of M.Event.parts M.Event.cmp (M.behaviour a.model.now) in
+        record { model = a.model.now; stop = a.stop; bound = bound_in m a.alone a.rounds; processes = processes_in m a.alone a.rounds } };
 
-    ghost invariant = { λ a. (a.bound ≤ a.stop) × (a.stop ≤ (M.behaviour a.model.now).latest)
-        × AreRuled (simulation_of M.Event.parts M.Event.cmp (M.behaviour a.model.now)) a.model.now a.stop a.bound a.flight.items a.members.items
-        × (0 < a.share) };
+    ghost invariant = { λ a. (a.stop ≤ (M.behaviour a.model.now).latest)
+        × GoesOneWay (simulation_of M.Event.parts M.Event.cmp (M.behaviour a.model.now)) a.model.now a.stop a.alone a.rounds };
 }
 
 impl<'a, M: ProcessModel> TimeWarp<'a, M> {
@@ -62,16 +54,14 @@ impl<'a, M: ProcessModel> TimeWarp<'a, M> {
     pub fn open(alloc: Global, model: &'a M) -> Result<TimeWarp<'a, M>, AllocError>
         ensures { IfOk result (λ w. IsOpening (simulation_of M.Event.parts M.Event.cmp (M.behaviour model.now)) model.now w) }
     {
-        model_is_lawful(model);
+        let alone = Alone::open(alloc, model)?;
         Ok(TimeWarp {
             model,
-            members: open_all(alloc, model)?,
-            flight: Vec::new(alloc),
-            bound: 0,
             stop: 0,
+            alone: Some(alone),
+            rounds: None,
+            course: Course::new(),
             pace: Pace::new(model.lookahead()),
-            threads: 1,
-            share: usize::MAX,
             counts: Counts::default(),
         })
     }
@@ -94,12 +84,25 @@ impl<'a, M: ProcessModel> TimeWarp<'a, M> {
     pub fn bound(&self) -> u64
         ensures { result ≡ self.now.bound }
     {
-        self.bound
+        if let Some(alone) = &self.alone {
+            return alone.bound();
+        }
+        match &self.rounds {
+            Some(rounds) => rounds.bound(),
+            None => 0,
+        }
     }
 
     /// What its processes have done, since it was opened.
     pub fn counts(&self) -> Counts {
-        self.counts
+        let mut counts = self.counts;
+        if let Some(alone) = &self.alone {
+            counts.add(alone.counts());
+        }
+        if let Some(rounds) = &self.rounds {
+            counts.add(rounds.counts());
+        }
+        counts
     }
 
     /// The state of a process, as the events that it has handled left it. Where the bound has come to the stop, that is
@@ -121,7 +124,13 @@ impl<'a, M: ProcessModel> TimeWarp<'a, M> {
         ensures { let m = simulation_of M.Event.parts M.Event.cmp (M.behaviour self.now.model) in
             M.known result.now ≡ state m number (handled number self.now) }
     {
-        self.members[number as usize].process().state()
+        if let Some(alone) = &self.alone {
+            return alone.state(number);
+        }
+        match &self.rounds {
+            Some(rounds) => rounds.state(number),
+            None => unreachable!(),
+        }
     }
 
     /// Tells what holds of every run. It does nothing.
@@ -131,7 +140,12 @@ impl<'a, M: ProcessModel> TimeWarp<'a, M> {
         ensures right { IsRight (simulation_of M.Event.parts M.Event.cmp (M.behaviour self.now.model)) self.now }
         ensures complete { self.now.bound ≡ self.now.stop → HasRun (simulation_of M.Event.parts M.Event.cmp (M.behaviour self.now.model)) self.now }
     {
-        let _ = &self.members;
+        if let Some(alone) = &self.alone {
+            alone.keeps_law();
+        }
+        if let Some(rounds) = &self.rounds {
+            rounds.keeps_rule();
+        }
     }
 
     /// The stop becomes the greater of itself and `stop`.
@@ -142,164 +156,56 @@ impl<'a, M: ProcessModel> TimeWarp<'a, M> {
         self.stop = self.stop.max(stop);
     }
 
-    /// What the shares of the last round have to send on is dealt out to those of the next one.
-    fn deal(&mut self, workers: u32) -> Result<(), AllocError>
+    /// It goes on in rounds from here, where one thread alone has come to its stop and there is memory.
+    fn share(&mut self)
         ensures same { IsSameRun self.old self.new }
         ensures bound { self.new.bound ≡ self.old.bound }
     {
-        self.send()?;
-        self.share_out(workers);
-        self.deal_out()
-    }
-
-    /// What the shares of the last round have to send on is on its way.
-    fn send(&mut self) -> Result<(), AllocError>
-        ensures same { IsSameRun self.old self.new }
-        ensures bound { self.new.bound ≡ self.old.bound }
-    {
-        send_all(&mut self.members, self.share, &mut self.flight)
-    }
-
-    /// How many threads take part in the next round, and how many processes are a share.
-    fn share_out(&mut self, workers: u32)
-        ensures { self.new ≡ self.old }
-    {
-        self.threads = self.pace.threads(workers);
-        self.share = share_of(self.members.len(), self.threads);
-    }
-
-    /// Each message that is on its way goes to the share of its receiver.
-    fn deal_out(&mut self) -> Result<(), AllocError>
-        ensures same { IsSameRun self.old self.new }
-        ensures bound { self.new.bound ≡ self.old.bound }
-    {
-        deal(&mut self.members, self.share, &mut self.flight)
-    }
-
-    /// What was done in a round is counted, and the pace of the next one fits it.
-    fn count(&mut self)
-        ensures { self.new ≡ self.old }
-    {
-        let round = count_round(&self.members, self.share);
-        self.counts.add(round);
-        let lookahead = self.model.lookahead();
-        self.pace = self.pace.after(self.threads, lookahead, round);
-    }
-
-    /// Tells why it does not go on, where one of its processes is the cause.
-    fn tell(&mut self) -> Result<(), Refused>
-        ensures same { IsSameRun self.old self.new }
-        ensures bound { self.new.bound ≡ self.old.bound }
-        ensures full { IsErrOf result CounterFull → IsStuck (simulation_of M.Event.parts M.Event.cmp (M.behaviour self.new.model)) self.new }
-    {
-        model_is_lawful(self.model);
-        if self.bound >= self.stop {
-            return Ok(());
-        }
-        // At the bound that the processes know: an antimessage that is on its way may be for an event at a later one.
-        tell(&mut self.members, self.share, self.bound)
-    }
-
-    /// The bound rises to the least time of all that waits or is on its way, and at most to the stop.
-    fn raise_bound(&mut self)
-        ensures same { IsSameRun self.old self.new }
-        ensures rises { self.old.bound ≤ self.new.bound }
-    {
-        let flying = least_among(&self.flight, self.stop);
-        let least = least_of(&self.members, flying);
-        self.bound = self.bound.max(least);
-    }
-}
-
-impl<'a, M: ProcessModel + Sync> TimeWarp<'a, M>
-where
-    M::State: Send,
-    M::Event: Send,
-    M::Note: Send,
-{
-    /// Handles all events before `stop`, in ticks, and before each stop asked for earlier, in at most so many threads. A
-    /// stop is at most the model's latest time.
-    ///
-    /// What its processes have handled then is the sequential run to that stop, however many threads there are. After a
-    /// refusal it is so before the bound, and a later call goes on from there. It is `CounterFull` only where a counter
-    /// is full for the first event of a process and that is at the bound, so that it can't be taken back; else it is want
-    /// of memory. Nothing here promises that threads run.
-    pub fn run_to<R: Threads + Wait + Sync>(
-        &mut self,
-        rt: &R,
-        workers: u32,
-        stop: u64,
-    ) -> Result<(), Refused>
-        requires { stop ≤ (M.behaviour self.old.model).latest }
-        ensures ok { OnOk result (HasRun (simulation_of M.Event.parts M.Event.cmp (M.behaviour self.old.model)) self.new) }
-        ensures complete { OnOk result (self.new.bound ≡ self.new.stop) }
-        ensures model { self.new.model ≡ self.old.model }
-        ensures stop { self.new.stop ≡ max self.old.stop stop }
-        ensures rises { self.old.bound ≤ self.new.bound }
-        ensures right { IsRight (simulation_of M.Event.parts M.Event.cmp (M.behaviour self.old.model)) self.new }
-        ensures full { IsErrOf result CounterFull → IsStuck (simulation_of M.Event.parts M.Event.cmp (M.behaviour self.old.model)) self.new }
-    {
-        self.raise_stop(stop);
-        for _ in rt.forever() {
-            self.keeps_rule();
-            if self.bound() >= self.stop() {
-                return Ok(());
-            }
-            self.round(rt, workers)?;
-        }
-        unreachable!()
-    }
-
-    /// What is for others is dealt out, each share of the processes takes its turn, and the bound rises.
-    fn round<R: Threads + Sync>(&mut self, rt: &R, workers: u32) -> Result<(), Refused>
-        ensures same { IsSameRun self.old self.new }
-        ensures rises { self.old.bound ≤ self.new.bound }
-        ensures right { IsRight (simulation_of M.Event.parts M.Event.cmp (M.behaviour self.new.model)) self.new }
-        ensures full { IsErrOf result CounterFull → IsStuck (simulation_of M.Event.parts M.Event.cmp (M.behaviour self.new.model)) self.new }
-    {
-        let went = self.go_on(rt, workers);
-        self.keeps_rule();
-        went
-    }
-
-    /// A round, whatever the rule tells of it.
-    fn go_on<R: Threads + Sync>(&mut self, rt: &R, workers: u32) -> Result<(), Refused>
-        ensures same { IsSameRun self.old self.new }
-        ensures rises { self.old.bound ≤ self.new.bound }
-        ensures full { IsErrOf result CounterFull → IsStuck (simulation_of M.Event.parts M.Event.cmp (M.behaviour self.new.model)) self.new }
-    {
-        if self.deal(workers).is_err() {
-            return Err(Refused::Memory);
-        }
-        let went_on = self.turn(rt);
-        self.count();
-        if went_on {
-            return Ok(());
-        }
-        self.tell()?;
-        self.raise_bound();
-        Ok(())
-    }
-
-    /// Each share of the processes takes its turn. Where all went on, the bound rises to the least time of all that waits
-    /// or is on its way, and at most to the stop; it is answered whether they did.
-    fn turn<R: Threads + Sync>(&mut self, rt: &R) -> bool
-        ensures same { IsSameRun self.old self.new }
-        ensures rises { self.old.bound ≤ self.new.bound }
-    {
-        let round = Round {
-            alloc: *self.flight.allocator(),
-            bound: self.bound,
-            limit: limit_of(self.threads, self.bound, self.pace.window, self.stop),
-            stop: self.stop,
+        let Some(alone) = self.alone.take() else {
+            return;
         };
-        turn_all(rt, &mut self.members, self.share, round);
-        if refused_in(&self.members, self.share).is_some() {
-            return false;
+        if alone.bound() < alone.stop() {
+            self.alone = Some(alone);
+            return;
         }
-        let flying = least_among(&self.flight, self.stop);
-        let least = least_told(&self.members, self.share, flying);
-        self.bound = self.bound.max(least);
-        true
+        let counts = alone.counts();
+        match Rounds::take_over(alone, self.pace) {
+            Ok(rounds) => {
+                self.counts.add(counts);
+                self.rounds = Some(rounds);
+            }
+            Err(alone) => self.alone = Some(alone),
+        }
+    }
+
+    /// One thread goes on alone from here, where the rounds have come to their stop, nothing is on its way any more and
+    /// there is memory.
+    fn go_alone(&mut self)
+        ensures same { IsSameRun self.old self.new }
+        ensures bound { self.new.bound ≡ self.old.bound }
+    {
+        let Some(rounds) = self.rounds.take() else {
+            return;
+        };
+        if rounds.bound() < rounds.stop() {
+            self.rounds = Some(rounds);
+            return;
+        }
+        rounds.keeps_rule();
+        let counts = rounds.counts();
+        self.pace = rounds.pace();
+        match rounds.give_up() {
+            Ok(alone) => {
+                self.counts.add(counts);
+                self.alone = Some(alone);
+            }
+            Err(rounds) => self.rounds = Some(rounds),
+        }
+    }
+
+    /// How many events were handled and not taken back, about.
+    fn events(&self) -> u64 {
+        let counts = self.counts();
+        counts.handled.saturating_sub(counts.antimessages)
     }
 }

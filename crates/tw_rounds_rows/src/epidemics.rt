@@ -20,7 +20,7 @@ fn infected<R: Threads + Wait + Sync>(
     requires { stop < 1000 }
 {
     let mut run = TimeWarp::open(alloc, epidemic).ok()?;
-    run.run_to(rt, workers, stop).ok()?;
+    run.run_in_rounds(rt, workers, stop).ok()?;
     Some(count_infected(&run))
 }
 

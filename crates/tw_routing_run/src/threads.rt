@@ -38,7 +38,7 @@ pub fn run_case_by<'r, 'a, R: Threads + Wait + Sync>(
     let Ok(mut run) = TimeWarp::open(alloc, routing) else {
         return Err(Refused::Memory);
     };
-    match run.run_to(rt, workers, stop) {
+    match run.run_in_rounds(rt, workers, stop) {
         Ok(()) => Ok(run),
         Err(refused) => Err(refused),
     }

@@ -21,7 +21,7 @@ use tw_sequential::Sequential;
 
 /// Does what a command line asks: runs PHOLD, and writes the report that is due, or why there is none. The meter is
 /// told when the run has come to its stop.
-pub(crate) fn perform<X: Threads + Wait + Sync, S: Sink, C: Clock>(
+pub(crate) fn perform<X: Threads + Wait + Clock + Sync, S: Sink, C: Clock>(
     rt: &X,
     alloc: Global,
     line: CommandLine,
@@ -48,7 +48,7 @@ pub(crate) fn perform<X: Threads + Wait + Sync, S: Sink, C: Clock>(
 }
 
 /// Runs PHOLD to a stop as it is asked for, and writes its report.
-fn report<X: Threads + Wait + Sync, S: Sink, C: Clock>(
+fn report<X: Threads + Wait + Clock + Sync, S: Sink, C: Clock>(
     rt: &X,
     alloc: Global,
     phold: &Phold,
@@ -87,7 +87,7 @@ fn seq<S: Sink, C: Clock>(
 }
 
 /// Runs PHOLD to a stop by so many workers, and writes its report.
-fn run<X: Threads + Wait + Sync, S: Sink, C: Clock>(
+fn run<X: Threads + Wait + Clock + Sync, S: Sink, C: Clock>(
     rt: &X,
     alloc: Global,
     phold: &Phold,

@@ -1,0 +1,12 @@
+use Rattle.std.proofs.Common.{◌≡◌, [], get_or, set, ap, ◌∙◌}
+use Rattle.std.proofs.lemmas.Option.{slice_get-get_or}
+use Rattle.tw_rounds.specs.Members.{Mailed}
+use Rattle.tw_rounds.proofs.waiting.clear_at.Goals as goal
+
+pub returns : goal.returns
+returns g c = λ x at.
+    let xs = c.args.members.now in
+    let read = c.index-members-place.result in
+    let here = slice_get-get_or xs c.args.place read c.requires in
+    let same : get_or xs c.args.place read ≡ x = cc (here, at) in
+    ap (set xs c.args.place) (c.clear_pending.ensures ∙ ap (λ (z : Mailed _ _). record z { process = record z.process { pending = [] } }) same)
