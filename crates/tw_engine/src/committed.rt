@@ -90,13 +90,13 @@ impl<'a, M: ProcessModel> Committed<'a, M> {
     }
 
     /// What is committed is what the sequential run has handled, so that no event is kept in the list any more.
-    pub(crate) fn forget(&mut self, progress: Progress)
+    pub(crate) fn forget(&mut self, base: Progress)
         requires turn { let m = simulation_of M.Event.parts M.Event.cmp (M.behaviour self.old.model) in
-            only m self.old.number (log_after m progress.since progress.turns) ≡ self.old.past }
+            only m self.old.number (log_after m base.since base.turns) ≡ self.old.past }
         ensures { self.new ≡ self.old }
     {
         self.later.clear();
-        self.base = progress;
+        self.base = base;
     }
 }
 
