@@ -1,20 +1,8 @@
-use Rattle.std.proofs.Common.{◌≡◌, ◌++◌, reverse, slice_get, ap, sym, ◌∙◌, subst}
-use Rattle.tw_engine.specs.Past.{committed_after, events_of}
+use Rattle.std.proofs.Common.{◌≡◌, ◌++◌, reverse, slice_get, ap, sym, ◌∙◌}
+use Rattle.tw_engine.specs.Past.{Settled, committed_after, events_of}
 use Rattle.tw_engine.proofs.Turns.{committed_more}
 use Rattle.tw_process.specs.Behaviour.{simulation_of}
 use Rattle.tw_engine.proofs.committed.Committed.add_steps.Goals as goal
-
-pub invariant_of-self : goal.invariant_of-self
-invariant_of-self g c =
-    let a = c.self.inside in
-    let m = simulation_of g.M.Event.Timed.parts g.M.Event.Ord.cmp (g.M.ProcessModel.behaviour a.model.now) in
-    subst (λ l. a.newest ≡ slice_get (committed_after m a.number a.base.since a.base.turns l) 0) (sym c.in_err-reserve.ensures.items) c.self.invariant
-
-pub returns-in_err-reserve-clause-err : goal.returns-in_err-reserve-clause-err
-returns-in_err-reserve-clause-err g c =
-    let a = c.self.inside in
-    let m = simulation_of g.M.Event.Timed.parts g.M.Event.Ord.cmp (g.M.ProcessModel.behaviour a.model.now) in
-    ap (λ l. record { model = a.model.now; number = a.number; past = committed_after m a.number a.base.since a.base.turns l }) c.in_err-reserve.ensures.items ∙ c.self.view_is
 
 pub invariant_of-self-2 : goal.invariant_of-self-2
 invariant_of-self-2 g c =
@@ -22,7 +10,7 @@ invariant_of-self-2 g c =
     let m = simulation_of g.M.Event.Timed.parts g.M.Event.Ord.cmp (g.M.ProcessModel.behaviour a.model.now) in
     let steps = c.args.steps.now in
     let gone : c.add_events.new.events.items ≡ a.later.items ++ events_of steps = c.add_events.ensures ∙ ap (λ xs. xs ++ events_of steps) c.in_ok-reserve.ensures.items in
-    c.newest_of.ensures (committed_after m a.number a.base.since a.base.turns a.later.items) c.self.invariant
+    c.newest_of-self-inside.ensures (committed_after m a.number a.base.since a.base.turns a.later.items) c.self.invariant
     ∙ ap (λ l. slice_get l 0) (sym (committed_more m a.number a.base.since a.base.turns a.later.items c.add_events.new.events.items steps gone))
 
 pub returns-clause-ok : goal.returns-clause-ok
@@ -31,5 +19,5 @@ returns-clause-ok g c =
     let m = simulation_of g.M.Event.Timed.parts g.M.Event.Ord.cmp (g.M.ProcessModel.behaviour a.model.now) in
     let steps = c.args.steps.now in
     let gone : c.add_events.new.events.items ≡ a.later.items ++ events_of steps = c.add_events.ensures ∙ ap (λ xs. xs ++ events_of steps) c.in_ok-reserve.ensures.items in
-    ap (λ l. record { model = a.model.now; number = a.number; past = l }) (committed_more m a.number a.base.since a.base.turns a.later.items c.add_events.new.events.items steps gone)
-    ∙ ap (λ s. record s { past = events_of (reverse steps) ++ s.past }) c.self.view_is
+    let more = committed_more m a.number a.base.since a.base.turns a.later.items c.add_events.new.events.items steps gone in
+    (λ i. record { model = a.model.now; number = a.number; past = more i }) ∙ (λ i. record (c.self.view_is i) { past = events_of (reverse steps) ++ (c.self.view_is i).past })

@@ -1,23 +1,11 @@
 use Rattle.std.proofs.Common.{◌≡◌, ◌≤◌, ◌++◌, drop, nat_lt, reverse, take, ap, sym, ◌∙◌, subst}
 use Rattle.std.specs.List.{prefix_len}
-use Rattle.tw_engine.specs.Past.{IsPast, Settled, committed_to, count_left, events_of, not_before}
+use Rattle.tw_engine.specs.Past.{committed_to, count_left, events_of, not_before}
 use Rattle.tw_engine.proofs.Below.{all_committed, all_stay}
 use Rattle.tw_engine.proofs.Commits.{gone_events, left_events, past_committed}
 use Rattle.tw_process.specs.Behaviour.{simulation_of}
 use Rattle.tw_sim.specs.Simulation.{IsFalling, below}
 use Rattle.tw_engine.proofs.past.Past.commit.Goals as goal
-
-pub invariant_of-self : goal.invariant_of-self
-invariant_of-self g c =
-    let a = c.self.inside in
-    let m = simulation_of g.M.Event.Timed.parts g.M.Event.Ord.cmp (g.M.ProcessModel.behaviour a.model.now) in
-    let same = c.in_err-add_steps.ensures.err in (
-      c.self.invariant.0,
-      subst (λ past. IsPast m (g.M.ProcessModel.behaviour a.model.now).latest (g.M.ProcessModel.is_note a.model.now) a.number past (g.M.ProcessModel.known a.state) a.done a.steps.items)
-          (sym (ap (λ s. s.past) same)) c.self.invariant.1,
-      ap (λ s. s.model) same ∙ c.self.invariant.2,
-      ap (λ s. s.number) same ∙ c.self.invariant.3,
-    )
 
 pub invariant_of-self-2 : goal.invariant_of-self-2
 invariant_of-self-2 g c =
@@ -36,11 +24,6 @@ invariant_of-self-2 g c =
       ap (λ s. s.model) gone ∙ c.self.invariant.2,
       ap (λ s. s.number) gone ∙ c.self.invariant.3,
     )
-
-pub returns-in_err-add_steps-clause-err : goal.returns-in_err-add_steps-clause-err
-returns-in_err-add_steps-clause-err g c =
-    let a = c.self.inside in
-    (λ i. record { model = a.model.now; number = a.number; ahead = events_of (reverse a.steps.items); past = (c.in_err-add_steps.ensures.err i).past; done = a.done }) ∙ c.self.view_is
 
 pub returns-clause-ok : goal.returns-clause-ok
 returns-clause-ok g c =
