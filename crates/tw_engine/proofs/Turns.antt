@@ -1,23 +1,12 @@
 -- What a process has committed, by the sequential run's turns and a list.
-use Rattle.std.proofs.Common.{◌≡◌, ℕ, ◌+◌, ◌<◌, ◌≤◌, ◌↔◌, true, List, [], ◌∷◌, ◌++◌, None, Option, Some, append_assoc, length, length-append, map, reverse, slice_get, refl, ap, sym, ◌∙◌, subst, arith}
+use Rattle.std.proofs.Common.{◌≡◌, ℕ, ◌<◌, ◌≤◌, List, [], ◌∷◌, ◌++◌, append_assoc, length, reverse, refl, ap, sym, ◌∙◌, subst, arith}
 use Rattle.std.proofs.lemmas.List.{length-map, length-reverse}
-use Rattle.std.specs.List.{AllByRecursion}
 use Rattle.tw_core.proofs.Cuts.{run_to_zero}
 use Rattle.tw_core.proofs.Sums.{all_map}
 use Rattle.tw_engine.specs.Past.{IsPast, committed_after, events_of, log_after}
 use Rattle.tw_engine.specs.declared.past.Done.{Done}
 use Rattle.tw_engine.proofs.Commits.{past_events}
 use Rattle.tw_sim.specs.Simulation.{Simulation, IsLawful, only, state}
-
-module _ {E N : Type 0} (older : List E) where
-  -- the event that stands first
-  pub first_event : (steps : List (Done E N)) (d : Done E N) → Some d ≡ slice_get steps 0 → Some d.event ≡ slice_get (events_of steps ++ older) 0
-  first_event [] d at = absurd (cc)
-  first_event (x ∷ steps) d at = let is : d ≡ x = cc in ap (λ y. Some y.event) is
-
-  pub first_older : (steps : List (Done E N)) (before : Option E) → None ≡ slice_get steps 0 → before ≡ slice_get older 0 → before ≡ slice_get (events_of steps ++ older) 0
-  first_older [] before at is = is
-  first_older (x ∷ steps) before at is = absurd (cc)
 
 -- where none can be undone there is no step
 pub no_steps : {E N : Type 0} (steps : List (Done E N)) → events_of (reverse steps) ≡ [] → steps ≡ []
