@@ -33,8 +33,11 @@ impl<'a, M: ProcessModel> Model for Committed<'a, M> {
 
     ghost Value = { Settled M M.Event };
 
-    ghost view = { λ a. record { model = a.model.now; number = a.number;
-        past = committed_after (simulation_of M.Event.parts M.Event.cmp (M.behaviour a.model.now)) a.number a.base.since a.base.turns a.later.items } };
+    ghost view = { λ a. record {
+      model = a.model.now;
+      number = a.number;
+      past = committed_after (simulation_of M.Event.parts M.Event.cmp (M.behaviour a.model.now)) a.number a.base.since a.base.turns a.later.items;
+    } };
 
     ghost invariant = { λ a. a.newest
         ≡ slice_get (committed_after (simulation_of M.Event.parts M.Event.cmp (M.behaviour a.model.now)) a.number a.base.since a.base.turns a.later.items) 0 };
@@ -64,10 +67,7 @@ impl<'a, M: ProcessModel> Committed<'a, M> {
 
     /// The events of steps become committed, the first one first. Without memory none does; where there are none, none
     /// is taken.
-    pub(crate) fn add_steps(
-        &mut self,
-        steps: &[Done<M::Event, M::Note>],
-    ) -> Result<(), AllocError>
+    pub(crate) fn add_steps(&mut self, steps: &[Done<M::Event, M::Note>]) -> Result<(), AllocError>
         ensures ok { OnOk result (self.new ≡ record self.old { past = events_of (reverse steps.now) ++ self.old.past }) }
         ensures err { OnErr result (self.new ≡ self.old) }
     {

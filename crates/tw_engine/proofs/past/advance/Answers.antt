@@ -1,4 +1,4 @@
-use Rattle.std.proofs.Common.{reverse, ap}
+use Rattle.std.proofs.Common.{ap}
 use Rattle.tw_engine.specs.Past.{events_of}
 use Rattle.tw_engine.proofs.Newest.{is_room, past_kept, past_more, turned}
 use Rattle.tw_process.specs.Behaviour.{simulation_of}

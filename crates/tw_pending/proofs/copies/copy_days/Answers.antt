@@ -1,5 +1,5 @@
-use Rattle.std.proofs.Common.{◌≤◌, ◌+◌, ◌++◌, length, vec_capacity, vec_len, ap, arith}
-use Rattle.tw_pending.proofs.Copied.{all_copied, copied, left_in, room_left}
+use Rattle.std.proofs.Common.{◌++◌, length, ap, arith}
+use Rattle.tw_pending.proofs.Copied.{all_copied, copied, room_left}
 use Rattle.tw_pending.specs.Ring.{all_of, lists_of}
 use Rattle.tw_pending.proofs.copies.copy_days.Goals as goal
 

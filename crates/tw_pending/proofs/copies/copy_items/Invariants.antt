@@ -1,4 +1,4 @@
-use Rattle.std.proofs.Common.{◌≡◌, ◌+◌, ◌≤◌, ◌++◌, drop, length, map, vec_capacity, vec_len}
+use Rattle.std.proofs.Common.{◌≡◌, ◌+◌, ◌++◌, drop, map, vec_capacity, vec_len}
 use Rattle.tw_pending.proofs.copies.copy_items.Given as goal
 
 -- what is left goes behind, and has room

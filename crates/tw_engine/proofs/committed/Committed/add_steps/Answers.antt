@@ -1,5 +1,5 @@
 use Rattle.std.proofs.Common.{◌≡◌, ◌++◌, reverse, slice_get, ap, sym, ◌∙◌}
-use Rattle.tw_engine.specs.Past.{Settled, committed_after, events_of}
+use Rattle.tw_engine.specs.Past.{committed_after, events_of}
 use Rattle.tw_engine.proofs.Turns.{committed_more}
 use Rattle.tw_process.specs.Behaviour.{simulation_of}
 use Rattle.tw_engine.proofs.committed.Committed.add_steps.Goals as goal

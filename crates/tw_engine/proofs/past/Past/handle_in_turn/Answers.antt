@@ -1,4 +1,4 @@
-use Rattle.std.proofs.Common.{◌≡◌, ◌≤◌, ◌<◌, ◌∷◌, [], reverse, ap, sym, ◌∙◌, arith}
+use Rattle.std.proofs.Common.{◌≡◌, ◌≤◌, ◌<◌, ◌∷◌, [], reverse, ap, ◌∙◌, arith}
 use Rattle.tw_engine.specs.Past.{events_of}
 use Rattle.tw_engine.proofs.Turns.{no_steps, past_in_turn}
 use Rattle.tw_process.specs.Behaviour.{simulation_of}
