@@ -154,15 +154,14 @@ module _ {S E N : Type 0} (m : Simulation S E) where
 
     -- the process is the same one, once its oldest events are committed
     pub past_committed : (knows : S) (done time n : ℕ) (past left : List E) (steps rest : List (Done E N)) → done ≤ time → n ≡ prefix_len (λ d. nat_lt (m.time d.event) time) steps
-        → left ≡ past ++ events_of (take n steps) → rest ≡ drop n steps → IsPast m latest is_note r (reverse past) knows done steps → IsPast m latest is_note r (reverse left) knows time rest
+        → left ≡ events_of (reverse (take n steps)) ++ past → rest ≡ drop n steps → IsPast m latest is_note r past knows done steps → IsPast m latest is_note r left knows time rest
     past_committed knows done time n past left steps rest later is gone stay h =
-        let now : reverse left ≡ events_of (reverse (take n steps)) ++ reverse past = ap reverse gone ∙ past_events past (take n steps) in
-        subst (λ l. IsPast m latest is_note r l knows time rest) (sym now)
-        (subst (IsPast m latest is_note r (events_of (reverse (take n steps)) ++ reverse past) knows time) (sym stay) (record {
+        subst (λ l. IsPast m latest is_note r l knows time rest) (sym gone)
+        (subst (IsPast m latest is_note r (events_of (reverse (take n steps)) ++ past) knows time) (sym stay) (record {
           here = h.here;
-          known = h.known ∙ ap (state m r) (sym (same_history n (reverse past) steps));
-          noted = noted_after (reverse past) (reverse (drop n steps)) (reverse (take n steps)) (subst (AreNoted m latest is_note r (reverse past)) (parted n steps) h.noted);
-          early = past_early done time n (reverse past) steps later is h.early;
+          known = h.known ∙ ap (state m r) (sym (same_history n past steps));
+          noted = noted_after past (reverse (drop n steps)) (reverse (take n steps)) (subst (AreNoted m latest is_note r past) (parted n steps) h.noted);
+          early = past_early done time n past steps later is h.early;
         }))
 
 module _ {S E : Type 0} (m : Simulation S E) where

@@ -5,5 +5,5 @@ pub mod Machine
 pub mod Newest
 pub mod Openings
 pub mod Times
+pub mod Turns
 pub mod Undoing
-pub mod Walks

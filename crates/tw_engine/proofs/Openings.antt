@@ -5,7 +5,7 @@ use Rattle.std.specs.List.{AllByRecursion}
 use Rattle.tw_sim.specs.Simulation.{Simulation, IsLawful, only}
 use Rattle.tw_sim.specs.Seq.{insert, insert_all}
 use Rattle.tw_engine.specs.Process.{AreOwn}
-use Rattle.tw_engine.proofs.Walks.{split}
+use Rattle.tw_pending.proofs.Walks.{split}
 use Rattle.tw_sim.proofs.Counts.{is_order}
 use Rattle.tw_sim.proofs.Ordered.{all-insert, all_counted}
 

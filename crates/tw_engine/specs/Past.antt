@@ -2,7 +2,9 @@
 use Rattle.std.specs.Prelude.{◌++◌, ◌-◌, ◌≡◌, ◌<◌, ℕ, true, false, not, List, [], ◌∷◌, drop, filter, length, map, nat_lt, reverse, take}
 use Rattle.std.specs.List.{AllByRecursion, suffix_len}
 use Rattle.tw_engine.specs.declared.past.Done.{Done}
-use Rattle.tw_sim.specs.Simulation.{Simulation, state}
+use Rattle.tw_process.specs.declared.limits.TheConstants.{LATEST}
+use Rattle.tw_sim.specs.Seq.{seq, turns}
+use Rattle.tw_sim.specs.Simulation.{Simulation, only, state}
 
 -- a process of a model, by its number, with the events that it has handled and not undone
 pub record Handled (M E : Type 0) : Type 0 where
@@ -13,6 +15,12 @@ pub record Handled (M E : Type 0) : Type 0 where
   pub past : List E
   -- the bound at its latest commit
   pub done : ℕ
+
+-- a process of a model, by its number, with what it has committed, the newest first
+pub record Settled (M E : Type 0) : Type 0 where
+  pub model : M
+  pub number : ℕ
+  pub past : List E
 
 -- the events of what was handled, the newest first
 abbrev pub events_of : {E N : Type 0} → List (Done E N) → List E
@@ -38,6 +46,14 @@ module _ {S E N : Type 0} (m : Simulation S E) (latest : ℕ) (is_note : S → E
     pub early : AllByRecursion (λ e. m.time e < done) past
 
 module _ {S E : Type 0} (m : Simulation S E) where
+  -- the events of the sequential run, all before a time and those of so many turns behind them, the newest first
+  abbrev pub log_after : ℕ → ℕ → List E
+  log_after since count = (turns m count LATEST (seq m since)).log
+
+  -- what process r has committed: its events of the sequential run so far, and later ones, in the order handled; the newest first
+  abbrev pub committed_after : ℕ → ℕ → ℕ → List E → List E
+  committed_after r since count later = reverse later ++ only m r (log_after since count)
+
   -- how many events are left of a list, which has the newest first, once the oldest are gone as far as each is before this time
   abbrev pub count_left : ℕ → List E → ℕ
   count_left time events = length events - suffix_len (λ e. nat_lt (m.time e) time) events

@@ -1,5 +1,5 @@
 -- A logical process, and the state of the machine that it is (own, after Jefferson, Virtual Time, 1985).
-use Rattle.std.specs.Prelude.{◌≡◌, ◌^◌, ◌++◌, ℕ, true, false, not, Bool, List, [], ◌∷◌, drop, length, map, nat_lt, take}
+use Rattle.std.specs.Prelude.{◌≡◌, ◌^◌, ◌+◌, ◌++◌, ℕ, true, false, not, Bool, List, [], ◌∷◌, drop, length, map, max, nat_lt, take}
 use Rattle.std.specs.List.{AllByRecursion}
 use Rattle.tw_core.specs.Machine.{Core}
 use Rattle.tw_core.specs.Steps.{antimessage, put}
@@ -107,6 +107,14 @@ module _ {S E : Type 0} (m : Simulation S E) where
       ahead = take (count_left m p.bound p.ahead) p.ahead;
       past = drop (count_left m p.bound p.ahead) p.ahead ++ p.past;
       done = p.bound;
+    }
+
+    -- it has handled an event and committed it at once: its bound is behind the event
+    abbrev pub handled_in_turn : E → Logical M E → Logical M E
+    handled_in_turn e p = record p {
+      past = e ∷ p.past;
+      done = max p.done (m.time e + 1);
+      bound = max p.bound (m.time e + 1);
     }
 
     -- a process has undone the newest event that it could undo

@@ -13,6 +13,7 @@ ghost use Rattle.tw_process.specs.Behaviour.{simulation_of};
 ghost use Rattle.tw_sim.specs.Seq.{insert, insert_all};
 ghost use Rattle.tw_sim.specs.Simulation.{IsFalling, IsLawful, below, only, state, times};
 
+mod alone;
 mod undoing;
 
 use crate::past::Past;

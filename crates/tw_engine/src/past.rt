@@ -1,18 +1,23 @@
 //! A process with what it has handled: each event that is not committed can be taken back, the last one first.
 
-ghost use Rattle.std.specs.Prelude.{◌^◌, ◌≡◌, ◌+◌, ◌<◌, ◌≤◌, ◌↔◌, ◌++◌, ◌∷◌, [], nat_lt, true, IfOk, IfSome, IsErrOf, OnErr, OnOk, drop, length, map, slice_get, reverse, vec_capacity, vec_len};
+ghost use Rattle.std.specs.Prelude.{◌^◌, ◌≡◌, ◌+◌, ◌<◌, ◌≤◌, ◌↔◌, ◌++◌, ◌∷◌, [], nat_lt, true, IfOk, IfSome, IsErrOf, OnErr, OnOk, drop, length, max, slice_get, reverse, vec_capacity, vec_len};
 ghost use Rattle.std.specs.List.{AllByRecursion, list_any, prefix_len};
 ghost use Rattle.tw_process.specs.Behaviour.{simulation_of};
 ghost use Rattle.tw_process.specs.declared.refused.Refused.TheVariants.{CounterFull};
-ghost use Rattle.tw_engine.specs.Past.{IsPast, IsUndone, committed_to, events_of, not_before};
+ghost use Rattle.tw_engine.specs.Past.{IsPast, IsUndone, committed_to, events_of, log_after, not_before};
 ghost use Rattle.tw_core.specs.Steps.{is_newest};
-ghost use Rattle.tw_pending.specs.Order.{is_same};
-ghost use Rattle.tw_sim.specs.Simulation.{IsFalling, IsLawful, below, state, times};
+ghost use Rattle.tw_pending.specs.Order.{is_before, is_same};
+ghost use Rattle.tw_sim.specs.Ordered.{insert_all};
+ghost use Rattle.tw_sim.specs.Simulation.{IsFalling, IsLawful, below, only, state, times};
 
+use crate::committed::Committed;
+use crate::progress::Progress;
 use std::alloc::{AllocError, Global};
 use std::marker::Model;
+use tw_pending::Pending;
 use tw_process::laws::model_is_lawful;
 use tw_process::{ProcessModel, Refused, Timed};
+use tw_sequential::handle_least;
 
 /// An event that was handled, and its note.
 #[derive(Clone, Copy)]
@@ -27,22 +32,23 @@ pub(crate) struct Past<'a, M: ProcessModel> {
     model: &'a M,
     number: u32,
     state: M::State,
-    committed: Vec<M::Event>,
+    committed: Committed<'a, M>,
     done: u64,
     steps: Vec<Done<M::Event, M::Note>>,
 }
 
 impl<'a, M: ProcessModel> Model for Past<'a, M> {
-    ghost use Rattle.std.specs.Prelude.{reverse};
+    ghost use Rattle.std.specs.Prelude.{◌≡◌, reverse};
     ghost use Rattle.tw_process.specs.Behaviour.{simulation_of};
     ghost use Rattle.tw_engine.specs.Past.{Handled, IsPast, events_of};
 
     ghost Value = { Handled M M.Event };
 
-    ghost view = { λ a. record { model = a.model.now; number = a.number; ahead = events_of (reverse a.steps.items); past = reverse a.committed.items; done = a.done } };
+    ghost view = { λ a. record { model = a.model.now; number = a.number; ahead = events_of (reverse a.steps.items); past = a.committed.past; done = a.done } };
 
     ghost invariant = { λ a. M.is_state a.model.now a.number a.state
-        × IsPast (simulation_of M.Event.parts M.Event.cmp (M.behaviour a.model.now)) (M.behaviour a.model.now).latest (M.is_note a.model.now) a.number (reverse a.committed.items) (M.known a.state) a.done a.steps.items };
+        × IsPast (simulation_of M.Event.parts M.Event.cmp (M.behaviour a.model.now)) (M.behaviour a.model.now).latest (M.is_note a.model.now) a.number a.committed.past (M.known a.state) a.done a.steps.items
+        × (a.committed.model ≡ a.model.now) × (a.committed.number ≡ a.number) };
 }
 
 impl<'a, M: ProcessModel> Past<'a, M> {
@@ -56,7 +62,7 @@ impl<'a, M: ProcessModel> Past<'a, M> {
             model,
             number,
             state,
-            committed: Vec::new(alloc),
+            committed: Committed::new(alloc, model, number),
             done: 0,
             steps: Vec::new(alloc),
         })
@@ -109,7 +115,7 @@ impl<'a, M: ProcessModel> Past<'a, M> {
     {
         match self.newest_ahead() {
             Some(event) => Some(event),
-            None => last_of(&self.committed),
+            None => self.committed.newest(),
         }
     }
 
@@ -202,16 +208,66 @@ impl<'a, M: ProcessModel> Past<'a, M> {
     {
         model_is_lawful(self.model);
         let count = first_before(&self.steps, bound);
-        self.committed.reserve(count)?;
-        add_events(&mut self.committed, &self.steps[..count]);
+        self.committed.add_steps(&self.steps[..count])?;
         drop_first(&mut self.steps, count);
         self.done = bound;
         Ok(())
     }
+
+    /// Handles an event, the least of `pending`, in the sequential run's own turn, and commits it at once, without a
+    /// note. What it sends becomes pending in its place. After an error all is as it was.
+    #[inline(always)]
+    pub(crate) fn handle_in_turn(
+        &mut self,
+        event: &M::Event,
+        progress: Progress,
+        pending: &mut Pending<M::Event>,
+        sends: &mut Vec<M::Event>,
+    ) -> Result<(), Refused>
+        requires settled { self.old.ahead ≡ [] }
+        requires home { M.Event.parts.dst event.now ≡ self.old.number }
+        requires suits { (M.behaviour self.old.model).suits event.now ≡ true }
+        requires time { M.Event.parts.time event.now < (M.behaviour self.old.model).latest }
+        requires turn { let m = simulation_of M.Event.parts M.Event.cmp (M.behaviour self.old.model) in
+            only m self.old.number (log_after m progress.since progress.turns) ≡ event.now ∷ self.old.past }
+        requires room { (M.behaviour self.old.model).most ≤ vec_capacity sends.old }
+        requires empty { vec_len sends.old ≡ 0 }
+        ensures room { vec_capacity sends.old ≤ vec_capacity sends.new }
+        ensures empty { vec_len sends.new ≡ 0 }
+        ensures ok { OnOk result (self.new ≡ record self.old { past = event.now ∷ self.old.past; done = max self.old.done (M.Event.parts.time event.now + 1) }) }
+        ensures err { OnErr result (self.new ≡ self.old) }
+        ensures pending { let m = simulation_of M.Event.parts M.Event.cmp (M.behaviour self.old.model) in
+            OnOk result (pending.new ≡ insert_all (is_before M.Event.cmp) (m.sends (state m self.old.number self.old.past) event.now) (drop 1 pending.old)) }
+        ensures kept { OnErr result (pending.new ≡ pending.old) }
+        ensures full { let m = simulation_of M.Event.parts M.Event.cmp (M.behaviour self.old.model) in
+            IsErrOf result CounterFull ↔ (m.full (state m self.old.number self.old.past) event.now ≡ true) }
+    {
+        model_is_lawful(self.model);
+        handle_least(
+            self.model,
+            self.number,
+            &mut self.state,
+            pending,
+            event,
+            sends,
+        )?;
+        self.committed.put_in_turn(*event, progress);
+        self.done = self.done.max(event.time() + 1);
+        Ok(())
+    }
+
+    /// What it has committed is what the sequential run has handled of it, and takes no memory any more.
+    pub(crate) fn forget(&mut self, progress: Progress)
+        requires turn { let m = simulation_of M.Event.parts M.Event.cmp (M.behaviour self.old.model) in
+            only m self.old.number (log_after m progress.since progress.turns) ≡ self.old.past }
+        ensures { self.new ≡ self.old }
+    {
+        self.committed.forget(progress);
+    }
 }
 
 /// The last one of a list.
-fn last_of<T: Copy>(items: &[T]) -> Option<T>
+pub(crate) fn last_of<T: Copy>(items: &[T]) -> Option<T>
     ensures { result ≡ slice_get (reverse items.now) 0 }
 {
     items.last().copied()
@@ -235,16 +291,6 @@ fn first_before<E: Timed, N: Copy>(steps: &[Done<E, N>], time: u64) -> usize
         .count()
 }
 
-/// Adds the events of steps, for which there is room.
-fn add_events<E: Timed, N: Copy>(events: &mut Vec<E>, steps: &[Done<E, N>])
-    requires { vec_len events.old + length steps.now ≤ vec_capacity events.old }
-    ensures { events.new.items ≡ events.old.items ++ map (λ d. d.event) steps.now }
-{
-    for step in steps {
-        events.push_reserved(step.event);
-    }
-}
-
 /// Drops the first steps, so many.
 fn drop_first<E: Timed, N: Copy>(steps: &mut Vec<Done<E, N>>, count: usize)
     requires { count ≤ vec_len steps.old }
@@ -260,7 +306,7 @@ fn drop_first<E: Timed, N: Copy>(steps: &mut Vec<Done<E, N>>, count: usize)
 fn advance<M: ProcessModel>(
     model: &M,
     number: u32,
-    committed: &Vec<M::Event>,
+    committed: &Committed<'_, M>,
     done: u64,
     state: &mut M::State,
     steps: &mut Vec<Done<M::Event, M::Note>>,
@@ -268,13 +314,13 @@ fn advance<M: ProcessModel>(
     sends: &mut Vec<M::Event>,
 ) -> Result<(), Refused>
     requires own { M.is_state model.now number state.old }
-    requires past { IsPast (simulation_of M.Event.parts M.Event.cmp (M.behaviour model.now)) (M.behaviour model.now).latest (M.is_note model.now) number (reverse committed.now.items) (M.known state.old) done steps.old.items }
+    requires past { IsPast (simulation_of M.Event.parts M.Event.cmp (M.behaviour model.now)) (M.behaviour model.now).latest (M.is_note model.now) number committed.now.past (M.known state.old) done steps.old.items }
     requires home { M.Event.parts.dst event ≡ number }
     requires suits { (M.behaviour model.now).suits event ≡ true }
     requires time { M.Event.parts.time event < (M.behaviour model.now).latest }
     requires room { vec_len sends.old + (M.behaviour model.now).most ≤ vec_capacity sends.old }
     ensures own { M.is_state model.now number state.new }
-    ensures past { IsPast (simulation_of M.Event.parts M.Event.cmp (M.behaviour model.now)) (M.behaviour model.now).latest (M.is_note model.now) number (reverse committed.now.items) (M.known state.new) done steps.new.items }
+    ensures past { IsPast (simulation_of M.Event.parts M.Event.cmp (M.behaviour model.now)) (M.behaviour model.now).latest (M.is_note model.now) number committed.now.past (M.known state.new) done steps.new.items }
     ensures ok { OnOk result (events_of (reverse steps.new.items) ≡ event ∷ events_of (reverse steps.old.items)) }
     ensures kept { OnErr result (steps.new.items ≡ steps.old.items) }
     ensures sends { OnOk result (sends.new.items ≡ sends.old.items ++ (M.behaviour model.now).sends (M.known state.old) event) }
@@ -299,21 +345,21 @@ fn advance<M: ProcessModel>(
 fn step_back<M: ProcessModel>(
     model: &M,
     number: u32,
-    committed: &Vec<M::Event>,
+    committed: &Committed<'_, M>,
     done: u64,
     state: &mut M::State,
     steps: &mut Vec<Done<M::Event, M::Note>>,
     sends: &mut Vec<M::Event>,
 )
     requires own { M.is_state model.now number state.old }
-    requires past { IsPast (simulation_of M.Event.parts M.Event.cmp (M.behaviour model.now)) (M.behaviour model.now).latest (M.is_note model.now) number (reverse committed.now.items) (M.known state.old) done steps.old.items }
+    requires past { IsPast (simulation_of M.Event.parts M.Event.cmp (M.behaviour model.now)) (M.behaviour model.now).latest (M.is_note model.now) number committed.now.past (M.known state.old) done steps.old.items }
     requires some { 0 < vec_len steps.old }
     requires room { vec_len sends.old + (M.behaviour model.now).most ≤ vec_capacity sends.old }
     ensures own { M.is_state model.now number state.new }
-    ensures past { IsPast (simulation_of M.Event.parts M.Event.cmp (M.behaviour model.now)) (M.behaviour model.now).latest (M.is_note model.now) number (reverse committed.now.items) (M.known state.new) done steps.new.items }
+    ensures past { IsPast (simulation_of M.Event.parts M.Event.cmp (M.behaviour model.now)) (M.behaviour model.now).latest (M.is_note model.now) number committed.now.past (M.known state.new) done steps.new.items }
     ensures capacity { vec_capacity sends.old ≤ vec_capacity sends.new }
     ensures undone { let m = simulation_of M.Event.parts M.Event.cmp (M.behaviour model.now) in
-        IsUndone m number (reverse committed.now.items) (events_of (reverse steps.old.items)) (events_of (reverse steps.new.items)) sends.old.items sends.new.items }
+        IsUndone m number committed.now.past (events_of (reverse steps.old.items)) (events_of (reverse steps.new.items)) sends.old.items sends.new.items }
 {
     let step = steps.take_last();
     model.reverse(number, state, &step.event, step.note, sends);

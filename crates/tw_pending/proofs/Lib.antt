@@ -5,3 +5,5 @@ pub mod All
 pub mod Lists
 pub mod Removed
 pub mod Tops
+pub mod Walks
+pub mod Copied

@@ -3,8 +3,9 @@
 ghost use Rattle.std.specs.Prelude.{◌≡◌, [], OnErr, OnOk, drop, nat_lt, slice_get};
 ghost use Rattle.std.specs.Bool.{OnFalse};
 ghost use Rattle.tw_sim.specs.Ordered.{insert, take_out};
-ghost use Rattle.tw_pending.specs.Order.{IsInOrder, count, is_before, is_same};
+ghost use Rattle.tw_pending.specs.Order.{AreWith, IsInOrder, count, is_before, is_same};
 
+use crate::copies::copy_items;
 use crate::heap::{push_one, remove_one};
 use std::alloc::{AllocError, Global};
 use std::cmp::Reverse;
@@ -81,5 +82,22 @@ impl<E: Timed> EventHeap<E> {
     {
         let top = self.heap.pop()?;
         Some(top.0)
+    }
+
+    /// Puts a copy of all its events behind others, in no order. Where there is no room for all of them, none is copied.
+    pub fn copy_to(&self, events: &mut Vec<E>) -> Result<(), AllocError>
+        ensures ok { OnOk result (AreWith E.cmp self.now events.old.items events.new.items) }
+        ensures err { OnErr result (events.new.items ≡ events.old.items) }
+    {
+        events.reserve(self.heap.len())?;
+        copy_items(self.heap.as_slice(), events);
+        Ok(())
+    }
+
+    /// Drops all its events. It takes no memory, and keeps what it has.
+    pub fn clear(&mut self)
+        ensures { self.new ≡ [] }
+    {
+        self.heap.clear();
     }
 }

@@ -6,6 +6,7 @@
 #![tactic(auto)]
 
 mod calendar;
+mod copies;
 mod event_heap;
 mod heap;
 mod pending;

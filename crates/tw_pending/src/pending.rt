@@ -3,9 +3,10 @@
 ghost use Rattle.std.specs.Prelude.{◌≡◌, [], IfOk, OnErr, OnOk, drop, nat_lt, slice_get};
 ghost use Rattle.std.specs.Bool.{OnFalse};
 ghost use Rattle.tw_sim.specs.Ordered.{insert, insert_all, take_out};
-ghost use Rattle.tw_pending.specs.Order.{IsInOrder, count, is_before, is_same};
+ghost use Rattle.tw_pending.specs.Order.{AreWith, IsInOrder, count, is_before, is_same};
 
 use crate::calendar::{go_on, is_heap_first, put, put_each, take_equal, take_first};
+use crate::copies::{copy_days, copy_items, sum_of};
 use crate::ring::{DAYS, Ring};
 use crate::tick::Tick;
 use std::alloc::{AllocError, Global};
@@ -131,5 +132,21 @@ impl<E: Timed> Pending<E> {
         let least = take_first(&mut self.tick, &mut self.heap, &self.ring);
         go_on(&mut self.tick, &self.heap, &mut self.ring);
         least
+    }
+
+    /// Puts a copy of all events that wait behind others, in no order. Where there is no room for all of them, none is
+    /// copied.
+    pub fn copy_to(&self, events: &mut Vec<E>) -> Result<(), AllocError>
+        ensures ok { OnOk result (AreWith E.cmp self.now events.old.items events.new.items) }
+        ensures err { OnErr result (events.new.items ≡ events.old.items) }
+    {
+        let Some(count) = sum_of(self.tick.len(), self.heap.len(), self.ring.waiting) else {
+            return Err(AllocError);
+        };
+        events.reserve(count)?;
+        self.tick.copy_to(events);
+        copy_items(self.heap.as_slice(), events);
+        copy_days(&self.ring.days, events);
+        Ok(())
     }
 }

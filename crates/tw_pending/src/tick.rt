@@ -1,10 +1,11 @@
 //! The events of the tick at hand, put in order once.
 
-ghost use Rattle.std.specs.Prelude.{ℕ, ◌≡◌, ◌<◌, ◌∷◌, [], drop, length, slice_get};
+ghost use Rattle.std.specs.Prelude.{ℕ, ◌≡◌, ◌+◌, ◌<◌, ◌≤◌, ◌∷◌, ◌++◌, [], drop, length, slice_get, vec_capacity, vec_len};
 ghost use Rattle.std.specs.Bool.{OnFalse, OnTrue};
 ghost use Rattle.tw_pending.specs.Order.{AreWith, IsInOrder, count, in_order};
 ghost use Rattle.tw_pending.specs.Ring.{IsBegun};
 
+use crate::copies::copy_list;
 use crate::places::place_of;
 use std::alloc::Global;
 use std::marker::Model;
@@ -58,6 +59,26 @@ impl<E: Timed> Tick<E> {
         ensures no { OnFalse result (0 < length self.now) }
     {
         self.taken >= self.events.len()
+    }
+
+    /// How many events are left.
+    pub(crate) fn len(&self) -> usize
+        ensures { result ≡ length self.now }
+    {
+        self.events.len().saturating_sub(self.taken)
+    }
+
+    /// Puts a copy of the events that are left behind others, where there is room for them.
+    pub(crate) fn copy_to(&self, events: &mut Vec<E>)
+        requires { vec_len events.old + length self.now ≤ vec_capacity events.old }
+        ensures items { events.new.items ≡ events.old.items ++ self.now }
+        ensures len { vec_len events.new ≡ vec_len events.old + length self.now }
+        ensures capacity { vec_capacity events.old ≤ vec_capacity events.new }
+    {
+        if self.is_over() {
+            return;
+        }
+        copy_list(&self.events[self.taken..], events);
     }
 
     /// Takes out the first event, where there is one.

@@ -8,10 +8,15 @@ ghost use Rattle.tw_sim.specs.Ordered.{insert_all};
 use tw_pending::Pending;
 use tw_process::{ProcessModel, Refused};
 
-/// The process of this number handles the least pending event, and what it sends becomes pending. After an error what
-/// it knows and all that is pending is as it was.
+/// The process of this number handles the least pending event, and what it sends becomes pending: one turn of a
+/// sequential run, for a process whose state is kept elsewhere. It takes no note, so that the turn cannot be undone.
+///
+/// `event` is the least of `pending`, and `sends` is an empty list with room for what one event sends at most, which is
+/// empty again afterwards. A refusal leaves what the process knows and all that is pending as it was: it is
+/// `CounterFull` exactly where handling the event would pass the limit of one of the model's counters, and want of
+/// memory else.
 #[inline(always)]
-pub(crate) fn handle<M: ProcessModel>(
+pub fn handle_least<M: ProcessModel>(
     model: &M,
     number: u32,
     state: &mut M::State,
@@ -72,7 +77,7 @@ pub(crate) fn handle_at<M: ProcessModel>(
         × (IsErrOf result CounterFull ↔ ((M.behaviour model.now).full (M.known before) event.now ≡ true)) }
     ensures err { OnErr result (pending.new ≡ pending.old) }
 {
-    handle(
+    handle_least(
         model,
         number,
         &mut states[number as usize],

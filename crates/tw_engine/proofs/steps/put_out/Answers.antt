@@ -1,5 +1,5 @@
 use Rattle.std.proofs.Common.{◌++◌, map, arith}
-use Rattle.tw_engine.proofs.Walks.{all_pushed, pushed}
+use Rattle.tw_pending.proofs.Walks.{all_pushed, pushed}
 use Rattle.tw_sim.specs.declared.machine.Signed.{Signed}
 use Rattle.tw_engine.proofs.steps.put_out.Goals as goal
 

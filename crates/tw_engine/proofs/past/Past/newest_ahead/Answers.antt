@@ -16,5 +16,5 @@ returns-clause-own g c =
     let sim = λ (model : g.row.M.Denot). simulation_of g.M.Event.Timed.parts g.M.Event.Ord.cmp (g.M.ProcessModel.behaviour model) in
     let d = c.in_ok-done.done in
     subst (λ p. ((sim p.model).dst d.event ≡ p.number) × ((sim p.model).suits d.event ≡ true)) c.self.view_is
-    (newest_own (sim a.model.now) (g.M.ProcessModel.behaviour a.model.now).latest (g.M.ProcessModel.is_note a.model.now) a.number (reverse a.committed.items) (reverse a.steps.items) d
+    (newest_own (sim a.model.now) (g.M.ProcessModel.behaviour a.model.now).latest (g.M.ProcessModel.is_note a.model.now) a.number a.committed.past (reverse a.steps.items) d
     (sym (c.in_ok-done.ensures ∙ ap (λ xs. slice_get (reverse xs) 0) c.deref.ensures.value)) c.self.invariant.1.noted)

@@ -1,7 +1,7 @@
-use Rattle.std.proofs.Common.{[], ◌∷◌, ap, sym, subst, ◌∙◌}
-use Rattle.std.specs.BinaryHeap.{IsHeap, heap_items}
+use Rattle.std.proofs.Common.{[], ◌∷◌, ap, ◌∙◌}
+use Rattle.std.specs.BinaryHeap.{heap_items}
 use Rattle.tw_sim.specs.Ordered.{insert}
-use Rattle.tw_pending.specs.Order.{is_before, reversed}
+use Rattle.tw_pending.specs.Order.{is_before}
 use Rattle.tw_pending.specs.Ring.{all_in, waiting_in}
 use Rattle.tw_pending.proofs.Counts.{more_in_order}
 use Rattle.tw_pending.proofs.Tops.{among_all}

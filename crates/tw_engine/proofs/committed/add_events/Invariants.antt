@@ -1,5 +1,5 @@
 use Rattle.std.proofs.Common.{◌≡◌, ◌+◌, ◌≤◌, ◌++◌, drop, length, map, vec_capacity, vec_len}
-use Rattle.tw_engine.proofs.past.add_events.Given as goal
+use Rattle.tw_engine.proofs.committed.add_events.Given as goal
 
 -- what is left goes behind, and has room
 abbrev pub invariant-loop-step : goal.invariant-loop-step

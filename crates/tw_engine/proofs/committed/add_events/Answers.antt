@@ -1,6 +1,6 @@
 use Rattle.std.proofs.Common.{◌++◌, map, arith}
-use Rattle.tw_engine.proofs.Walks.{all_pushed, pushed}
-use Rattle.tw_engine.proofs.past.add_events.Goals as goal
+use Rattle.tw_pending.proofs.Walks.{all_pushed, pushed}
+use Rattle.tw_engine.proofs.committed.add_events.Goals as goal
 
 pub loop-step-preserved : goal.loop-step-preserved
 loop-step-preserved g c =
