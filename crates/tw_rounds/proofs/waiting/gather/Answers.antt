@@ -2,7 +2,7 @@ use Rattle.std.proofs.Common.{ℕ, ◌≡◌, ◌+◌, Some, drop, length, slice
 use Rattle.std.proofs.lemmas.List.{drop_all}
 use Rattle.std.proofs.lemmas.Option.{slice_get_read}
 use Rattle.tw_core.specs.Parts.{total}
-use Rattle.tw_engine.proofs.Walks.{split}
+use Rattle.tw_pending.proofs.Walks.{split}
 use Rattle.tw_process.specs.Behaviour.{simulation_of}
 use Rattle.tw_rounds.specs.Members.{Mailed}
 use Rattle.tw_sim.specs.Simulation.{times}

@@ -60,3 +60,9 @@ invariant_of-self-2 g c =
       subst (λ zs. AreRuled m a.model.now a.stop c.max-self-inside.result a.flight.items zs) (sym items) (subst (λ b. AreRuled m a.model.now a.stop b a.flight.items ys) (sym c.max-self-inside.ensures) found),
       c.self.invariant.3,
     )
+
+pub returns-clause-same : goal.returns-clause-same
+returns-clause-same g c = record { model = ap (λ w. w.model) c.self.view_is; stop = ap (λ w. w.stop) c.self.view_is }
+
+pub returns-clause-rises : goal.returns-clause-rises
+returns-clause-rises g c = let same = ap (λ w. w.bound) c.self.view_is in omega (arith, c.max-self-inside.ensures)
