@@ -66,7 +66,7 @@ all_settled (x ∷ xs) each = (each 0 x refl, all_settled xs (λ i y at. each (s
 -- a test that as many pass as there are passes each
 all_pass : {E : Type 0} (p : E → Bool) (xs : List E) → length (filter p xs) ≤ length xs
 all_pass p [] = omega arith
-all_pass p (x ∷ xs) = let more = all_pass p xs in elim (cases_Bool (p x)) [ | inl b ↦ rw b (omega arith) | inr b ↦ rw b (omega arith) ]
+all_pass p (x ∷ xs) = let more = all_pass p xs in elim (cases_Bool (p x)) [ inl b ↦ rw b (omega arith) | inr b ↦ rw b (omega arith) ]
 
 each_passes : {E : Type 0} (p : E → Bool) (xs : List E) → length xs ≡ length (filter p xs) → filter p xs ≡ xs
 each_passes p [] h = refl

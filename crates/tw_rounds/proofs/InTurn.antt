@@ -172,19 +172,22 @@ module _ {M S E : Type 0} (m : Simulation S E) (law : IsLawful m) (model : M) (s
       are_next = record {
         count = length-set xs (m.dst e) y ∙ are.count;
         each = set_others (λ r (z : Mailed M E). IsCommitted m then r z × (z.process.pending ≡ [])) xs (m.dst e) y (is_committed, (are.each (m.dst e) x at).1)
-            (λ r z there apart. (let old = are.each r z there in (record {
-              model = old.0.model;
-              number = old.0.number;
-              ahead = old.0.ahead;
-              past = old.0.past ∙ sym (ap (only m r) log_next ∙ other_log r apart);
-              kept = old.0.kept;
-              flight = old.0.flight;
-              mail = old.0.mail;
-              outbox = old.0.outbox;
-              early = old.0.early;
-              done = old.0.done;
-              bound = old.0.bound;
-            }, old.1)));
+            (λ r z there apart. (let old = are.each r z there in (
+              record {
+                model = old.0.model;
+                number = old.0.number;
+                ahead = old.0.ahead;
+                past = old.0.past ∙ sym (ap (only m r) log_next ∙ other_log r apart);
+                kept = old.0.kept;
+                flight = old.0.flight;
+                mail = old.0.mail;
+                outbox = old.0.outbox;
+                early = old.0.early;
+                done = old.0.done;
+                bound = old.0.bound;
+              },
+              old.1,
+            )));
       }
 
       -- it is its turn

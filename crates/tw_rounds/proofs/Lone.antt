@@ -141,19 +141,22 @@ module _ {S E : Type 0} (m : Simulation S E) (law : IsLawful m) where
     pub committed_raised : (run : Run M E) (stop : ℕ) (waits : ℕ → List E) (xs : List (Mailed M E)) → run.stop ≤ stop → AreCommitted m run waits xs → AreCommitted m (record run { stop = stop }) waits xs
     committed_raised run stop waits xs le are = record {
       count = are.count;
-      each = λ r x at. (let h = are.each r x at in (record {
-        model = h.0.model;
-        number = h.0.number;
-        ahead = h.0.ahead;
-        past = h.0.past;
-        kept = h.0.kept;
-        flight = h.0.flight;
-        mail = h.0.mail;
-        outbox = h.0.outbox;
-        early = h.0.early;
-        done = (let d = h.0.done in omega (arith, d, le));
-        bound = (let d = h.0.bound in omega (arith, d, le));
-      }, h.1));
+      each = λ r x at. (let h = are.each r x at in (
+        record {
+          model = h.0.model;
+          number = h.0.number;
+          ahead = h.0.ahead;
+          past = h.0.past;
+          kept = h.0.kept;
+          flight = h.0.flight;
+          mail = h.0.mail;
+          outbox = h.0.outbox;
+          early = h.0.early;
+          done = (let d = h.0.done in omega (arith, d, le));
+          bound = (let d = h.0.bound in omega (arith, d, le));
+        },
+        h.1,
+      ));
     }
 
     -- ---- the beginning
@@ -195,5 +198,6 @@ module _ {S E : Type 0} (m : Simulation S E) (law : IsLawful m) where
             done = omega arith;
             bound = omega arith;
           }),
-          ap (λ y. y.process.pending) (each r x at));
+          ap (λ y. y.process.pending) (each r x at),
+        );
       }

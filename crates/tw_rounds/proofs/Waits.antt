@@ -70,19 +70,21 @@ module _ {M S E : Type 0} (m : Simulation S E) (run : Run M E) where
       let was = are.each k x at in
       record {
         count = length-set xs k (raised bound x) ∙ are.count;
-        each = set_others (λ r (z : Mailed M E). IsCommitted m run r z × (z.process.pending ≡ waits r)) xs k (raised bound x)
-            (record {
-              model = was.0.model;
-              number = was.0.number;
-              ahead = was.0.ahead;
-              past = was.0.past;
-              kept = was.0.kept;
-              flight = was.0.flight;
-              mail = was.0.mail;
-              outbox = was.0.outbox;
-              early = was.0.early;
-              done = was.0.done;
-              bound = (let le = was.0.bound in omega (arith, le, stop));
-            }, was.1)
+        each = set_others (λ r (z : Mailed M E). IsCommitted m run r z × (z.process.pending ≡ waits r)) xs k (raised bound x) (
+          record {
+            model = was.0.model;
+            number = was.0.number;
+            ahead = was.0.ahead;
+            past = was.0.past;
+            kept = was.0.kept;
+            flight = was.0.flight;
+            mail = was.0.mail;
+            outbox = was.0.outbox;
+            early = was.0.early;
+            done = was.0.done;
+            bound = (let le = was.0.bound in omega (arith, le, stop));
+          },
+          was.1,
+        )
             (λ r z there apart. are.each r z there);
       }

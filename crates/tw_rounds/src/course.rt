@@ -3,8 +3,8 @@
 
 ghost use Rattle.std.specs.Prelude.{◌≡◌, ◌≤◌, ◌<◌};
 
-use std::time::{Clock, Duration};
 use std::io;
+use std::time::{Clock, Duration};
 use tw_pace::{Alone as Lone, Course as Together};
 
 /// Which way a run goes on, and what that took so far.
