@@ -76,6 +76,9 @@ pub(crate) const STOP: &str = "Handles jobs before this time, in ticks: 1 to 100
 pub(crate) const WORKERS: &str =
     "How many threads handle jobs at the same time, at most: 1 to 64, or else 4";
 
+pub(crate) const ROUNDS: &str =
+    "In rounds of all workers from the first tick to the stop, never by one thread alone";
+
 pub(crate) const STATS: &str =
     "Tells on standard error what was counted and how long it took, each by its name";
 
