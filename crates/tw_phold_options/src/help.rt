@@ -51,8 +51,9 @@ pub(crate) const RUN: Page = Page {
 const RUN_LONG: &str = "\
 Runs PHOLD in several threads, and writes the same report.
 
-Each process runs ahead of the others, and goes back where a job comes late (Time Warp). The
-report is that of `twarp-phold seq`, to the byte, however many threads there are.
+One thread begins alone. Where several are faster they go on in rounds, in which each process
+runs ahead of the others, and goes back where a job comes late (Time Warp). The report is that of
+`twarp-phold seq`, to the byte, however many threads there are.
 
 Example:
   twarp-phold run --processes 64 --stop 1000 --workers 2";
