@@ -34,10 +34,15 @@ TRIALS = (
 )
 # Of some of them there are more than processes.
 WORKERS = 1, 2, 3, 7
-WAYS = "seq", "run", *(f"run --workers {count}" for count in WORKERS)
+WAYS = (
+    "seq",
+    "run",
+    *(f"run --workers {count}" for count in WORKERS),
+    *(f"run --rounds --workers {count}" for count in (1, 3)),
+)
 # What `--stats` tells of a run by workers, in this order.
 FIGURES = re.compile(
-    r"workers (\d+)\nrounds \d+\nhandled (\d+)\nundone (\d+)\ncommitted (\d+)\nefficiency [01]\.\d{4}\nmessages \d+\n"
+    r"workers (\d+)\nrounds (\d+)\nhandled (\d+)\nundone (\d+)\ncommitted (\d+)\nefficiency [01]\.\d{4}\nmessages \d+\n"
     r"antimessages \d+\nseconds-running \d+\.\d{6}\nseconds-writing \d+\.\d{6}\nevents-per-second \d+\n"
 )
 
@@ -122,15 +127,16 @@ def is_right(way: str, trial: str, own: str) -> bool:
     return ended.stdout == own and ended.returncode == own.startswith("refused")
 
 
-def tells_figures(workers: int, trial: str, own: str) -> bool:
+def tells_figures(flags: str, workers: int, trial: str, own: str) -> bool:
     """Whether `--stats` tells of a run what holds of it, and leaves its report as it is."""
-    ended = ran(f"run --workers {workers} --stats {trial}")
+    ended = ran(f"run {flags} --workers {workers} --stats {trial}")
     told = FIGURES.fullmatch(ended.stderr)
     if told is None or ended.stdout != own:
         return False
-    threads, handled, undone, committed = map(int, told.groups())
+    threads, rounds, handled, undone, committed = map(int, told.groups())
     events = sum(int(count) for count in re.findall(r" handled (\d+)", own))
-    return threads == workers and handled - undone == committed == events
+    goes_in_rounds = rounds > 0 or "--rounds" not in flags
+    return goes_in_rounds and threads == workers and handled - undone == committed == events
 
 
 def main() -> int:
@@ -143,7 +149,9 @@ def main() -> int:
         told += [(f"{way} {trial}", is_right(way, trial, own)) for way in WAYS]
     trial = TRIALS[-2]
     own = text_of(options_of(trial.split()))
-    told.append((f"run --stats {trial}", tells_figures(3, trial, own)))
+    told.append((f"run --stats {trial}", tells_figures("", 3, trial, own)))
+    for workers in 1, 3:
+        told.append((f"run --rounds --workers {workers} --stats {trial}", tells_figures("--rounds", workers, trial, own)))
     for words, passed in told:
         print("passed" if passed else "FAILED", words)
     failed = sum(not passed for _, passed in told)

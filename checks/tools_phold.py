@@ -8,7 +8,7 @@ from pathlib import Path
 from tools_common import Done, ToolTest, need_phold, need_program, run, tool
 from tools_install import completed, files_of, install
 
-# The options of twarp-phold seq, from docs/FORMATS.md; twarp-phold run has one more.
+# The options of twarp-phold seq, from docs/FORMATS.md; twarp-phold run has two more.
 OPTIONS = {
     "--processes", "--population", "--lookahead", "--longest", "--remote", "--seed", "--stop", "--stats"
 }
@@ -70,7 +70,7 @@ class Installed(ToolTest):
         script = self.assert_done(self.manual("bash"))
         self.assertGreaterEqual(completed(script, "twarp-phold "), {"seq", "run", "--help", "--version"})
         self.assertGreaterEqual(completed(script, "twarp-phold seq "), OPTIONS)
-        self.assertGreaterEqual(completed(script, "twarp-phold run "), OPTIONS | {"--workers"})
+        self.assertGreaterEqual(completed(script, "twarp-phold run "), OPTIONS | {"--workers", "--rounds"})
         self.assertEqual(completed(script, "twarp-phold seq --pop"), {"--population"})
         for shell in "zsh", "fish":
             self.assertRegex(self.assert_done(self.manual(shell)), r"\bpopulation\b")

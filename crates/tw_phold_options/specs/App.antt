@@ -36,6 +36,10 @@ stop_rule = number_rule (codes "stop") true 1 MOST_STOP
 abbrev pub workers_rule : Rule
 workers_rule = number_rule (codes "workers") false 1 MOST_WORKERS
 
+-- `--rounds`: it is run in rounds from the first tick to the stop
+abbrev pub rounds_rule : Rule
+rounds_rule = flag_rule (codes "rounds")
+
 -- `--stats`: what was counted and how long it took is told on standard error
 abbrev pub stats_rule : Rule
 stats_rule = flag_rule (codes "stats")
@@ -52,9 +56,9 @@ asking_app name = with_rule (with_rule (with_rule (measured_app name) remote_rul
 abbrev pub seq_app : App
 seq_app = with_rule (asking_app (codes "seq")) stats_rule
 
--- `twarp-phold run`, with the options of `seq` and [--workers N]
+-- `twarp-phold run`, with the options of `seq`, [--workers N] and [--rounds]
 abbrev pub run_app : App
-run_app = with_rule (with_rule (asking_app (codes "run")) workers_rule) stats_rule
+run_app = with_rule (with_rule (with_rule (asking_app (codes "run")) workers_rule) rounds_rule) stats_rule
 
 -- `twarp-phold` with its subcommands
 abbrev pub phold_app : App

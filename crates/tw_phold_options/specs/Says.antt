@@ -1,9 +1,9 @@
 -- What the words of a command line say, as the parser matched them. Own.
-use Rattle.std.specs.Prelude.{◌≡◌, List, Option, Some, None, codes}
+use Rattle.std.specs.Prelude.{◌≡◌, true, false, List, Option, Some, None, codes}
 use Rattle.clap.specs.Words.{Row, Text}
 use Rattle.tw_options.specs.Says.{IsNumberGiven, IsNumberOr, Sets}
 use Rattle.tw_phold_options.specs.declared.command_line.By.{By}
-use Rattle.tw_phold_options.specs.declared.command_line.By.TheVariants.{OneThread, Workers}
+use Rattle.tw_phold_options.specs.declared.command_line.By.TheVariants.{OneThread, Workers, Rounds}
 use Rattle.tw_phold_options.specs.declared.command_line.CommandLine.{CommandLine}
 use Rattle.tw_phold_options.specs.declared.numbers.TheConstants.{LONGEST_IF_NONE, LOOKAHEAD_IF_NONE, MOST_DELAY, MOST_POPULATION, MOST_PROCESSES, MOST_SEED, MOST_STOP, POPULATION_IF_NONE, PROCESSES_IF_NONE, REMOTE_IF_NONE, SEED_IF_NONE, MOST_WORKERS, WORKERS_IF_NONE, WHOLE}
 
@@ -18,10 +18,12 @@ pub record SaysPhold (rows : List Row) (line : CommandLine) : Type 0 where
   pub stop : IsNumberGiven (codes "stop") 1 MOST_STOP rows line.stop
   pub stats : Sets (codes "stats") rows line.stats
 
--- who runs it is the subcommand that was matched, with the workers that were given, or those that are there where none were
+-- who runs it is the subcommand that was matched, with the workers that were given, or those that are there where none were, in rounds
+-- exactly where that flag is set
 abbrev pub SaysBy : Text → List Row → By → Type 0
 SaysBy name rows OneThread = name ≡ codes "seq"
-SaysBy name rows (Workers n) = (name ≡ codes "run") × IsNumberOr (codes "workers") 1 MOST_WORKERS WORKERS_IF_NONE rows n
+SaysBy name rows (Workers n) = (name ≡ codes "run") × IsNumberOr (codes "workers") 1 MOST_WORKERS WORKERS_IF_NONE rows n × Sets (codes "rounds") rows false
+SaysBy name rows (Rounds n) = (name ≡ codes "run") × IsNumberOr (codes "workers") 1 MOST_WORKERS WORKERS_IF_NONE rows n × Sets (codes "rounds") rows true
 
 -- the command line is what was matched
 abbrev pub Says : Option (Text × List Row) → CommandLine → Type 0

@@ -11,6 +11,12 @@ use clap::Command;
 use std::alloc::{AllocError, Global};
 use tw_options::{CommandOption, Flag, Subcommand};
 
+pub(crate) const ROUNDS: Flag = Flag {
+    id: "rounds",
+    help: help::ROUNDS,
+    long_help: help::ROUNDS,
+};
+
 pub(crate) const STATS: Flag = Flag {
     id: "stats",
     help: help::STATS,
@@ -50,7 +56,7 @@ fn seq() -> Subcommand
 fn run() -> Subcommand
     ensures { subcommand_app result ≡ run_app }
 {
-    static OPTIONS: [CommandOption; 9] = [
+    static OPTIONS: [CommandOption; 10] = [
         CommandOption::Number(PROCESSES),
         CommandOption::Number(POPULATION),
         CommandOption::Number(LOOKAHEAD),
@@ -59,6 +65,7 @@ fn run() -> Subcommand
         CommandOption::Number(SEED),
         CommandOption::Number(STOP),
         CommandOption::Number(WORKERS),
+        CommandOption::Flag(ROUNDS),
         CommandOption::Flag(STATS),
     ];
     Subcommand {

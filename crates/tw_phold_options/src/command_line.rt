@@ -7,7 +7,7 @@ ghost use Rattle.tw_phold_options.specs.Fit.{HasPhold, IsFit};
 ghost use Rattle.tw_phold_options.specs.Says.{Says, SaysBy, SaysPhold};
 ghost use Rattle.tw_phold_options.specs.declared.numbers.TheConstants.{MOST_WORKERS};
 
-use crate::command::STATS;
+use crate::command::{ROUNDS, STATS};
 use crate::numbers::{
     LONGEST, LONGEST_IF_NONE, LOOKAHEAD, LOOKAHEAD_IF_NONE, POPULATION, POPULATION_IF_NONE,
     PROCESSES, PROCESSES_IF_NONE, REMOTE, REMOTE_IF_NONE, SEED, SEED_IF_NONE, STOP, WORKERS,
@@ -20,8 +20,10 @@ use clap::ArgMatches;
 pub enum By {
     /// One thread, which handles all jobs in their order.
     OneThread,
-    /// As many threads at most, from 1 to 64, in which processes run ahead of one another.
+    /// As many threads at most, from 1 to 64; one goes on alone where others are not faster.
     Workers(u32),
+    /// In rounds from the first tick to the stop, by as many threads at most, from 1 to 64.
+    Rounds(u32),
 }
 
 /// What a command line asks for: a run of PHOLD. Times are in ticks.
@@ -79,10 +81,15 @@ fn phold_by(given: &ArgMatches<'_>, by: By) -> CommandLine
     }
 }
 
-/// The workers that are given, or those that are there where none are.
+/// The workers that are given, or those that are there where none are, in rounds where that is told.
 fn workers_of(given: &ArgMatches<'_>) -> By
     requires { HasNumberIfGiven (codes "workers") 1 MOST_WORKERS (rows_of (found_of given.now)) }
     ensures { SaysBy (codes "run") (rows_of (found_of given.now)) result }
 {
-    By::Workers(WORKERS.read_or(given, WORKERS_IF_NONE) as u32)
+    let workers = WORKERS.read_or(given, WORKERS_IF_NONE) as u32;
+    if ROUNDS.is_set(given) {
+        By::Rounds(workers)
+    } else {
+        By::Workers(workers)
+    }
 }

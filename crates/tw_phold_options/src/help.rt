@@ -51,8 +51,9 @@ pub(crate) const RUN: Page = Page {
 const RUN_LONG: &str = "\
 Runs PHOLD in several threads, and writes the same report.
 
-Each process runs ahead of the others, and goes back where a job comes late (Time Warp). The
-report is that of `twarp-phold seq`, to the byte, however many threads there are.
+One thread begins alone. Where several are faster they go on in rounds, in which each process
+runs ahead of the others, and goes back where a job comes late (Time Warp). The report is that of
+`twarp-phold seq`, to the byte, however many threads there are.
 
 Example:
   twarp-phold run --processes 64 --stop 1000 --workers 2";
@@ -75,6 +76,9 @@ pub(crate) const STOP: &str = "Handles jobs before this time, in ticks: 1 to 100
 
 pub(crate) const WORKERS: &str =
     "How many threads handle jobs at the same time, at most: 1 to 64, or else 4";
+
+pub(crate) const ROUNDS: &str =
+    "In rounds of all workers from the first tick to the stop, never by one thread alone";
 
 pub(crate) const STATS: &str =
     "Tells on standard error what was counted and how long it took, each by its name";

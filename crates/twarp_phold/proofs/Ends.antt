@@ -1,20 +1,13 @@
--- How the program ends where its output failed, or where a run is refused.
+-- How the program ends where a run is refused.
 use Rattle.std.proofs.Common.{◌≡◌, ℕ, Bool, false, true, List, Option, Result, Ok, Err, refl, subst, sym}
 use Rattle.std.proofs.KnownBytes.{Keeps-refl}
 use Rattle.std.specs.Result.{IsErrAnd}
-use Rattle.tw_device.specs.Sink.{Begins}
 use Rattle.tw_process.specs.declared.refused.Refused.{Refused}
 use Rattle.tw_process.specs.declared.refused.Refused.TheVariants.{CounterFull, Memory}
 use Rattle.twarp_phold.specs.Cause.{cause_of}
 use Rattle.twarp_phold.specs.Due.{Leaves}
 use Rattle.twarp_phold.specs.declared.cause.Cause.{Cause}
-use Rattle.twarp_phold.specs.declared.cause.Cause.TheVariants.{Device}
 use Rattle.twarp_phold.specs.declared.cause.Status.{Status}
-
-pub device_failed : (result : Result Status Cause) (due : Status) (text : List ℕ) (stuck : Type 0) (old new : Option (List ℕ)) (failed : Bool)
-    → IsErrAnd result (λ cause. cause ≡ Device) → Begins old new text × (failed ≡ true) → Leaves result due text stuck old new failed
-device_failed (Ok status) due text stuck old new failed h told = absurd h
-device_failed (Err cause) due text stuck old new failed h told = subst (λ x. Leaves (Err x) due text stuck old new failed) (sym h) told
 
 caused : (why : Refused) (due : Status) (text : List ℕ) (stuck : Type 0) (old : Option (List ℕ)) (failed : Bool)
     → (why ≡ CounterFull → stuck) → failed ≡ false → Leaves (Err (cause_of why)) due text stuck old old failed

@@ -5,7 +5,7 @@ use Rattle.tw_device.specs.Sink.{Begins}
 use Rattle.tw_phold.specs.Phold.{Job, simulation}
 use Rattle.tw_phold.specs.declared.phold.Phold.{Phold}
 use Rattle.tw_phold_options.specs.declared.command_line.By.{By}
-use Rattle.tw_phold_options.specs.declared.command_line.By.TheVariants.{OneThread, Workers}
+use Rattle.tw_phold_options.specs.declared.command_line.By.TheVariants.{OneThread, Rounds, Workers}
 use Rattle.tw_phold_options.specs.declared.command_line.CommandLine.{CommandLine}
 use Rattle.tw_rounds.specs.Warp.{IsRight, Warp}
 use Rattle.tw_rounds.specs.Warp as warp
@@ -49,6 +49,7 @@ pub record IsHeldUp (m : Phold) (stop : ℕ) : Type 0 where
 abbrev pub StopsShort : By → Phold → ℕ → Type 0
 StopsShort OneThread = GetsStuck
 StopsShort (Workers n) = IsHeldUp
+StopsShort (Rounds n) = IsHeldUp
 
 -- what a program leaves at its sink that is to end so and to write this text; stuck says whether a counter would pass its limit
 abbrev pub Leaves : Result Status Cause → Status → List ℕ → Type 0 → Option (List ℕ) → Option (List ℕ) → Bool → Type 0

@@ -1,11 +1,14 @@
 //! What is done for a command line.
 
 ghost use Rattle.std.specs.Prelude.{◌≡◌, ◌≤◌, false};
-ghost use Rattle.tw_phold_options.specs.declared.command_line.By.TheVariants.{OneThread, Workers};
+ghost use Rattle.tw_phold_options.specs.declared.command_line.By.TheVariants.{OneThread, Rounds, Workers};
 ghost use Rattle.tw_process.specs.declared.limits.TheConstants.{LATEST};
-ghost use Rattle.twarp_phold.specs.Due.{AsksForPhold, IsRefused, IsReported, Reports};
+ghost use Rattle.twarp_phold.specs.Due.{AsksForPhold, IsRefused, IsReported, Leaves, Reports};
+ghost use Rattle.twarp_phold.specs.Report.{report_text};
+ghost use Rattle.twarp_phold.specs.declared.cause.Status.TheVariants.{Done};
 
 use crate::cause::{Cause, Status};
+use crate::ended::Ended;
 use crate::meter::Meter;
 use crate::report::{write_refused, write_report};
 use crate::tally::Tally;
@@ -64,6 +67,7 @@ fn report<X: Threads + Wait + Clock + Sync, S: Sink, C: Clock>(
     match by {
         By::OneThread => seq(alloc, phold, stop, sink, meter),
         By::Workers(workers) => run(rt, alloc, phold, workers, stop, sink, meter),
+        By::Rounds(workers) => run_in_rounds(rt, alloc, phold, workers, stop, sink, meter),
     }
 }
 
@@ -81,9 +85,7 @@ fn seq<S: Sink, C: Clock>(
 {
     let mut run = Sequential::open(alloc, phold)?;
     run.run_to(stop)?;
-    meter.has_run(Tally::of_one_thread(run.count_events()));
-    write_report(sink, &run)?;
-    Ok(Status::Done)
+    tell(&run, Tally::of_one_thread(run.count_events()), sink, meter)
 }
 
 /// Runs PHOLD to a stop by so many workers, and writes its report.
@@ -102,8 +104,41 @@ fn run<X: Threads + Wait + Clock + Sync, S: Sink, C: Clock>(
 {
     let mut run = TimeWarp::open(alloc, phold)?;
     run.run_to(rt, workers, stop)?;
-    meter.has_run(Tally::of_workers(workers, &run));
-    write_report(sink, &run)?;
+    tell(&run, Tally::of_workers(workers, &run), sink, meter)
+}
+
+/// Runs PHOLD to a stop in rounds by so many workers, and writes its report.
+fn run_in_rounds<X: Threads + Wait + Sync, S: Sink, C: Clock>(
+    rt: &X,
+    alloc: Global,
+    phold: &Phold,
+    workers: u32,
+    stop: u64,
+    sink: &mut S,
+    meter: &Meter<'_, C>,
+) -> Result<Status, Cause>
+    requires open { S.failed sink.old ≡ false }
+    requires stop { stop ≤ LATEST }
+    ensures { Reports result (Rounds workers) phold.now stop (S.written sink.old) (S.written sink.new) (S.failed sink.new) }
+{
+    let mut run = TimeWarp::open(alloc, phold)?;
+    run.run_in_rounds(rt, workers, stop)?;
+    tell(&run, Tally::of_workers(workers, &run), sink, meter)
+}
+
+/// Writes the report of a complete run, which has done this.
+fn tell<E: Ended, S: Sink, C: Clock>(
+    run: &E,
+    tally: Tally,
+    sink: &mut S,
+    meter: &Meter<'_, C>,
+) -> Result<Status, Cause>
+    requires open { S.failed sink.old ≡ false }
+    requires complete { E.is_complete run.now }
+    ensures { Leaves result Done (report_text (E.phold run.now) (E.end run.now)) ⊥ (S.written sink.old) (S.written sink.new) (S.failed sink.new) }
+{
+    meter.has_run(tally);
+    write_report(sink, run)?;
     Ok(Status::Done)
 }
 

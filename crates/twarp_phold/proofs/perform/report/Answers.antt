@@ -5,3 +5,6 @@ returns-in-OneThread g c = rw c.in-OneThread.is c.seq.ensures
 
 pub returns-in-Workers : goal.returns-in-Workers
 returns-in-Workers g c = rw c.in-Workers.is c.run.ensures
+
+pub returns-in-Rounds : goal.returns-in-Rounds
+returns-in-Rounds g c = rw c.in-Rounds.is c.run_in_rounds.ensures

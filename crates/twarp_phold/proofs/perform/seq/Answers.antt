@@ -1,10 +1,10 @@
 use Rattle.std.proofs.Common.{Err, max, ap, subst, ◌∙◌, arith, ◌≡◌}
 use Rattle.tw_phold.specs.Phold.{simulation}
-use Rattle.tw_sequential.specs.Run.{Continues, IsStuck, complete_run}
+use Rattle.tw_sequential.specs.Run.{Continues, IsStuck}
 use Rattle.twarp_phold.specs.Due.{GetsStuck}
 use Rattle.twarp_phold.specs.Report.{report_text}
 use Rattle.twarp_phold.specs.declared.cause.Status.TheVariants.{Done}
-use Rattle.twarp_phold.proofs.Ends.{device_failed, run_refused}
+use Rattle.twarp_phold.proofs.Ends.{run_refused}
 use Rattle.twarp_phold.proofs.perform.seq.Goals as goal
 
 pub returns-in_err-run_to : goal.returns-in_err-run_to
@@ -21,13 +21,3 @@ returns-in_err-run_to g c =
       stuck = subst (λ run. IsStuck (simulation run.model) c.run_to.new.self) opened (told.full (ap (λ x. Err x) is));
     })
     c.requires.open
-
-pub returns-in_err-write_report : goal.returns-in_err-write_report
-returns-in_err-write_report g c =
-    let opened = c.in_ok-run.ensures.value in
-    let at_0 : max 0 c.args.stop ≡ c.args.stop = omega arith in
-    let is : c.run_to.new.self ≡ complete_run (simulation c.args.phold.now) c.args.phold.now c.args.stop =
-    c.in_ok-run_to.ensures.ok ∙ (ap (λ run. complete_run (simulation run.model) run.model (max run.stop c.args.stop)) opened ∙ ap (complete_run (simulation c.args.phold.now) c.args.phold.now) at_0) in
-    let told = rw is at c.in_err-write_report.ensures in
-    device_failed c.from_residual-in_err-write_report.result Done (report_text c.args.phold.now c.args.stop) (GetsStuck c.args.phold.now c.args.stop) _ _ _
-    c.from_residual-in_err-write_report.ensures.1 told
