@@ -1,10 +1,9 @@
 -- Either way of going on takes over what the other has brought to its stop, a cut of the sequential run.
-use Rattle.std.proofs.Common.{◌≡◌, ℕ, zero, suc, ◌+◌, ◌<◌, ◌≤◌, ◌==◌, Bool, true, false, cond, List, [], ◌∷◌, ◌++◌, Some, flat_map, length, map, nat_lt, replicate, slice_get, refl, ap, sym, ◌∙◌, subst, inl, inr, arith}
-use Rattle.std.proofs.lemmas.Bool.{cases_Bool, cases_lt, eq-eqb, eqb-true, lt-ltb, ltb-true, ltb-false}
+use Rattle.std.proofs.Common.{◌≡◌, ℕ, zero, suc, ◌+◌, ◌<◌, ◌≤◌, ◌==◌, Bool, true, List, [], ◌∷◌, ◌++◌, Some, flat_map, length, map, nat_lt, replicate, slice_get, refl, ap, sym, ◌∙◌, subst, inl, inr, arith}
+use Rattle.std.proofs.lemmas.Bool.{cases_Bool, eq-eqb, eqb-true, ltb-true}
 use Rattle.std.proofs.lemmas.List.{length-map}
 use Rattle.std.specs.List.{AllByRecursion, filter}
 use Rattle.tw_core.proofs.Parts.{times-flat_map}
-use Rattle.tw_core.specs.Machine.{AreCounted}
 use Rattle.tw_core.specs.Parts.{Part, total}
 use Rattle.tw_core.specs.Run.{IsAtEnd}
 use Rattle.tw_engine.specs.Process.{history}
@@ -20,7 +19,7 @@ use Rattle.tw_rule.proofs.Cuts.{rule_at_cut}
 use Rattle.tw_rule.proofs.Places.{all_at, get_map, total_map}
 use Rattle.tw_rule.proofs.Ruled.{end_of_rule, handled_of}
 use Rattle.tw_rule.specs.Cut.{AreCutPlaces, HasOwn}
-use Rattle.tw_rule.specs.Place.{in_hand, part_of, place_core}
+use Rattle.tw_rule.specs.Place.{in_hand, part_of}
 use Rattle.tw_rule.specs.Rule.{assembled}
 use Rattle.tw_sequential.proofs.Running.{begun_later}
 use Rattle.tw_sequential.specs.Run.{IsBegun, NoneBefore, complete_run, world}
@@ -28,7 +27,6 @@ use Rattle.tw_sim.proofs.Closed.{rest_late}
 use Rattle.tw_sim.proofs.Counts.{in_filter, in_head, times-filter-no, times-filter-yes, times-insert_all}
 use Rattle.tw_sim.proofs.Rising.{rising-insert_all, same_rising}
 use Rattle.tw_sim.proofs.Unique.{all_below}
-use Rattle.tw_sim.specs.declared.machine.Signed.{Signed}
 use Rattle.tw_sim.specs.Seq.{begin, finished, insert_all, log, rest, seq, turns, weight}
 use Rattle.tw_sim.specs.Simulation.{Simulation, IsLawful, IsNumbered, below, only, times}
 

@@ -1,16 +1,15 @@
 -- One event more, handled by one thread alone in the sequential run's own turn.
-use Rattle.std.proofs.Common.{◌≡◌, ℕ, ◌+◌, ◌<◌, ◌≤◌, ◌⊎◌, ◌==◌, true, max, List, [], ◌∷◌, Some, drop, length, set, slice_get, length-set, refl, ap, sym, ◌∙◌, subst, inl, inr, arith}
+use Rattle.std.proofs.Common.{◌≡◌, ℕ, ◌+◌, ◌<◌, ◌≤◌, true, List, [], ◌∷◌, Some, drop, set, slice_get, length-set, refl, ap, sym, ◌∙◌, subst, inl, inr, arith}
 use Rattle.std.proofs.lemmas.Bool.{cases_lt, eq-eqb, ne_eqb}
-use Rattle.std.specs.List.{filter}
 use Rattle.tw_engine.specs.Past.{log_after}
 use Rattle.tw_engine.specs.Process.{handled_in_turn}
 use Rattle.tw_process.specs.declared.limits.TheConstants.{LATEST}
-use Rattle.tw_rounds.proofs.Lone.{bound-le, first_late, first_least, put_late, rising_rest, world_at}
-use Rattle.tw_rounds.proofs.Lists.{set_others, there_at}
+use Rattle.tw_rounds.proofs.Lone.{first_late, first_least, put_late, rising_rest, world_at}
+use Rattle.tw_rounds.proofs.Lists.{set_others}
 use Rattle.tw_rounds.specs.Alone.{AreCommitted, IsAlone, IsCommitted, bound_of, first_time, run_at}
 use Rattle.tw_rounds.specs.Members.{Mailed}
-use Rattle.tw_sequential.proofs.Running.{begun_later, begun_next, next_suits, weight_next}
-use Rattle.tw_sequential.specs.Run.{IsBegun, IsNext, IsNextRun, NoneBefore, Run, world}
+use Rattle.tw_sequential.proofs.Running.{begun_later, begun_next, next_suits}
+use Rattle.tw_sequential.specs.Run.{IsNext, IsNextRun, NoneBefore, Run, world}
 use Rattle.tw_sim.proofs.Counts.{in_cons, in_head}
 use Rattle.tw_sim.proofs.Seq.{turn_soon, turns-add}
 use Rattle.tw_sim.specs.Rising.{IsRising}

@@ -1,18 +1,18 @@
 -- A run by one thread alone, one turn of the sequential run after the other.
-use Rattle.std.proofs.Common.{◌≡◌, ℕ, zero, suc, ◌+◌, ◌<◌, ◌≤◌, ◌⊎◌, ◌==◌, Bool, true, false, min, List, [], ◌∷◌, Some, length, nat_lt, set, slice_get, length-set, refl, ap, sym, ◌∙◌, subst, inl, inr, arith}
-use Rattle.std.proofs.lemmas.Bool.{cases_Bool, cases_lt, eq-eqb, le-ltb, lt-ltb, ltb-true, ltb-false, ne_eqb}
+use Rattle.std.proofs.Common.{◌≡◌, ℕ, zero, suc, ◌+◌, ◌<◌, ◌≤◌, ◌==◌, Bool, true, List, [], ◌∷◌, Some, length, nat_lt, slice_get, refl, ap, sym, ◌∙◌, subst, inl, inr, arith}
+use Rattle.std.proofs.lemmas.Bool.{cases_Bool, cases_lt, le-ltb}
 use Rattle.std.specs.List.{filter}
 use Rattle.tw_core.proofs.Cuts.{run_to_zero}
 use Rattle.tw_engine.specs.Past.{log_after}
 use Rattle.tw_process.specs.declared.limits.TheConstants.{LATEST}
 use Rattle.tw_rounds.specs.Alone.{AreCommitted, IsAlone, IsCommitted, bound_of, first_time, run_at}
 use Rattle.tw_rounds.specs.Members.{Mailed, beginning_of}
-use Rattle.tw_sequential.proofs.Running.{begun_later, begun_next, complete_at}
-use Rattle.tw_sequential.specs.Run.{IsBegun, IsNext, IsNextRun, NoneBefore, Run, complete_run, world}
+use Rattle.tw_sequential.proofs.Running.{begun_later, complete_at}
+use Rattle.tw_sequential.specs.Run.{IsBegun, NoneBefore, Run, complete_run, world}
 use Rattle.tw_sim.proofs.Closed.{rest_late, running_seq}
 use Rattle.tw_sim.proofs.Counts.{in_cons, in_filter, in_head, none, times-insert_all}
 use Rattle.tw_sim.proofs.Rising.{AllSuit, rising-begin, rising-turns, suit-begin, suit-turns}
-use Rattle.tw_sim.proofs.Seq.{turn_over, turn_soon, turns-add}
+use Rattle.tw_sim.proofs.Seq.{turn_over, turn_soon}
 use Rattle.tw_sim.proofs.Unique.{all_below}
 use Rattle.tw_sim.specs.Rising.{IsRising}
 use Rattle.tw_sim.specs.Seq.{World, begin, insert_all, log, seq, turn, turns}

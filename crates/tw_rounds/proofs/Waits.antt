@@ -1,14 +1,13 @@
 -- What waits for processes, as it is dealt out, taken out and gathered.
-use Rattle.std.proofs.Common.{◌≡◌, ℕ, ◌+◌, ◌<◌, ◌≤◌, ◌==◌, true, false, max, cond, List, [], ◌∷◌, Some, drop, length, set, slice_get, length-set, refl, ap, sym, ◌∙◌, subst, inl, inr, arith}
-use Rattle.std.proofs.lemmas.Bool.{cases_Bool, cases_lt, eq-eqb, eqb-true, ne_eqb}
-use Rattle.tw_core.specs.Parts.{total}
+use Rattle.std.proofs.Common.{◌≡◌, ℕ, ◌<◌, ◌==◌, false, cond, List, [], ◌∷◌, Some, length, set, slice_get, length-set, refl, ap, sym, ◌∙◌, inl, inr, arith}
+use Rattle.std.proofs.lemmas.Bool.{cases_Bool, eq-eqb, eqb-true, ne_eqb}
 use Rattle.tw_engine.proofs.Openings.{next, passed, taken}
 use Rattle.tw_rounds.proofs.Lists.{set_others, within}
 use Rattle.tw_rounds.specs.Alone.{AreCommitted, IsCommitted, dealt}
-use Rattle.tw_rounds.specs.Members.{Mailed, awaiting, raised}
+use Rattle.tw_rounds.specs.Members.{Mailed, raised}
 use Rattle.tw_sequential.specs.Run.{Run}
 use Rattle.tw_sim.specs.Seq.{insert_all}
-use Rattle.tw_sim.specs.Simulation.{Simulation, only, times}
+use Rattle.tw_sim.specs.Simulation.{Simulation, only}
 
 differ : (a b : ℕ) → (a == b) ≡ false → a ≡ b → ⊥
 differ a b other is = (let yes = eq-eqb a b is in let k = rw yes at other in cc)

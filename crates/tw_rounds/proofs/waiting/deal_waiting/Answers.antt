@@ -1,12 +1,11 @@
-use Rattle.std.proofs.Common.{◌≡◌, ◌+◌, ℕ, List, [], ◌∷◌, Some, drop, slice_get, set, true, refl, ap, sym, ◌∙◌, subst, arith}
+use Rattle.std.proofs.Common.{◌≡◌, ◌+◌, [], ◌∷◌, drop, set, true, refl, ap, sym, ◌∙◌, subst, arith}
 use Rattle.std.proofs.lemmas.List.{drop_all}
-use Rattle.std.specs.List.{AllByRecursion}
 use Rattle.tw_engine.proofs.Openings.{step, taken}
 use Rattle.tw_process.specs.Behaviour.{simulation_of}
 use Rattle.tw_rounds.proofs.Lists.{set_same, there_at}
 use Rattle.tw_rounds.proofs.Waits.{AreLeft, changed, one_changed, one_dealt, waits_same}
 use Rattle.tw_rounds.specs.Alone.{AreCommitted, dealt}
-use Rattle.tw_rounds.specs.Members.{Mailed, awaiting}
+use Rattle.tw_rounds.specs.Members.{awaiting}
 use Rattle.tw_sim.specs.Seq.{insert, insert_all}
 use Rattle.tw_sim.specs.Simulation.{only}
 use Rattle.tw_rounds.proofs.waiting.deal_waiting.Goals as goal

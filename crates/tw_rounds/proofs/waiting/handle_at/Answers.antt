@@ -1,4 +1,4 @@
-use Rattle.std.proofs.Common.{◌≡◌, ◌∷◌, true, drop, get_or, set, slice_get, Some, ap, ◌∙◌, subst}
+use Rattle.std.proofs.Common.{◌≡◌, true, drop, get_or, set, ap, ◌∙◌, subst}
 use Rattle.std.proofs.lemmas.Option.{slice_get-get_or}
 use Rattle.std.specs.Result.{IsErrOf}
 use Rattle.tw_engine.specs.Process.{handled_in_turn}

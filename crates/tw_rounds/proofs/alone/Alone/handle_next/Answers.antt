@@ -1,4 +1,4 @@
-use Rattle.std.proofs.Common.{refl, ◌≡◌, ◌<◌, ◌≤◌, ◌∷◌, true, Err, Some, [], drop, length, set, slice_get, vec_capacity, ap, sym, ◌∙◌, subst, arith}
+use Rattle.std.proofs.Common.{refl, ◌≡◌, ◌<◌, ◌≤◌, ◌∷◌, true, Err, [], drop, length, set, slice_get, vec_capacity, ap, sym, ◌∙◌, subst, arith}
 use Rattle.std.proofs.lemmas.Result.{err_from_is_err_and}
 use Rattle.tw_engine.specs.Past.{log_after}
 use Rattle.tw_engine.specs.Process.{handled_in_turn}
@@ -8,7 +8,6 @@ use Rattle.tw_process.specs.declared.refused.Refused.TheVariants.{CounterFull}
 use Rattle.tw_rounds.proofs.InTurn.{IsFurther, are_next, bound_rises, in_turn, is_next, kept_next, sent, suits}
 use Rattle.tw_rounds.proofs.Lists.{if_err, rewritten, set_same, there_at}
 use Rattle.tw_rounds.specs.Alone.{AreCommitted, IsAlone, IsFullNext, bound_of, run_at}
-use Rattle.tw_rounds.specs.Members.{Mailed}
 use Rattle.tw_sequential.specs.Run.{IsNext, IsNextRun}
 use Rattle.tw_sim.specs.Seq.{insert_all}
 use Rattle.tw_sim.specs.Simulation.{only, state}

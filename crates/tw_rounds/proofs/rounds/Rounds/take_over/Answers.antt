@@ -1,4 +1,4 @@
-use Rattle.std.proofs.Common.{◌≡◌, ◌<◌, ℕ, List, [], Some, true, slice_get, refl, ap, sym, ◌∙◌, subst, arith}
+use Rattle.std.proofs.Common.{◌≡◌, [], true, refl, ap, sym, ◌∙◌, subst, arith}
 use Rattle.std.specs.List.{AllByRecursion}
 use Rattle.tw_process.specs.Behaviour.{simulation_of}
 use Rattle.tw_rounds.proofs.Cuts.{ruled_at_cut}
@@ -6,7 +6,6 @@ use Rattle.tw_rounds.proofs.Lists.{rewritten}
 use Rattle.tw_rounds.proofs.Lone.{is_complete, pending_suits}
 use Rattle.tw_rounds.specs.Alone.{AreCommitted, bound_of, dealt, run_at}
 use Rattle.tw_rounds.specs.Ruled.{AreRuled}
-use Rattle.tw_sequential.specs.Run.{complete_run}
 use Rattle.tw_sim.proofs.Counts.{is_order}
 use Rattle.tw_sim.proofs.Ordered.{all_counted}
 use Rattle.tw_sim.specs.Simulation.{times}

@@ -1,4 +1,4 @@
-use Rattle.std.proofs.Common.{◌≡◌, [], ap, sym, ◌∙◌}
+use Rattle.std.proofs.Common.{ap, ◌∙◌}
 use Rattle.tw_process.specs.Behaviour.{simulation_of}
 use Rattle.tw_sim.specs.Seq.{insert_all}
 use Rattle.tw_sim.specs.Simulation.{times}

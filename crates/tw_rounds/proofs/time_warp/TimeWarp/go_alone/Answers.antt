@@ -1,6 +1,5 @@
-use Rattle.std.proofs.Common.{◌≡◌, None, Some, ap, refl, sym, ◌∙◌, subst, arith}
+use Rattle.std.proofs.Common.{◌≡◌, Some, ap, sym, ◌∙◌, subst, arith}
 use Rattle.tw_process.specs.Behaviour.{simulation_of}
-use Rattle.tw_rounds.proofs.Lone.{bound-le}
 use Rattle.tw_rounds.proofs.Ways.{in_rounds}
 use Rattle.tw_rounds.specs.Alone.{bound_of}
 use Rattle.tw_rounds.specs.Warp.{GoesOneWay, bound_in}

@@ -1,4 +1,3 @@
-use Rattle.std.proofs.Common.{refl}
 use Rattle.tw_process.specs.Behaviour.{simulation_of}
 use Rattle.tw_rounds.proofs.Ways.{opens_alone}
 use Rattle.tw_rounds.proofs.time_warp.TimeWarp.open.Goals as goal
