@@ -1,7 +1,6 @@
 -- What the rule tells of a run, as its user sees it.
-use Rattle.std.proofs.Common.{◌≡◌, ℕ, suc, ◌+◌, ◌<◌, ◌==◌, true, List, [], ◌∷◌, Option, Some, None, Err, length, map, replicate, slice_get, nat_lt, refl, ap, sym, ◌∙◌, subst, inl, inr, arith}
-use Rattle.std.proofs.lemmas.Bool.{cases_Bool, cases_lt, cond-true, eq-eqb, ltb-true}
-use Rattle.std.proofs.lemmas.List.{length-map}
+use Rattle.std.proofs.Common.{◌≡◌, ℕ, ◌+◌, ◌<◌, ◌==◌, true, List, [], Option, Some, None, Err, length, map, slice_get, nat_lt, refl, ap, sym, ◌∙◌, subst, inl, inr, arith}
+use Rattle.std.proofs.lemmas.Bool.{cases_Bool, cond-true, eq-eqb, ltb-true}
 use Rattle.std.specs.Option.{option_map_or}
 use Rattle.tw_core.specs.Machine.{count_ahead}
 use Rattle.tw_core.specs.Steps.{first_pending, handle, is_newest}
@@ -9,22 +8,20 @@ use Rattle.tw_core.specs.declared.refusal.Refusal.TheVariants.{CounterFull}
 use Rattle.tw_core.specs.Machine.{Core}
 use Rattle.tw_engine.proofs.Machine.{there}
 use Rattle.tw_engine.specs.Process.{history, process_core}
-use Rattle.tw_rounds.proofs.Lists.{beyond, there_at}
+use Rattle.tw_rounds.proofs.Lists.{there_at}
 use Rattle.tw_rounds.proofs.Rules.{loose_from, self}
 use Rattle.tw_rounds.proofs.Stages.{stands_at}
-use Rattle.tw_rounds.specs.Members.{Mailed, opening_of, place_of}
+use Rattle.tw_rounds.specs.Members.{Mailed, place_of}
 use Rattle.tw_rounds.specs.Ruled.{AreRuled, IsSomeFullBefore, board_of}
 use Rattle.tw_rounds.specs.Warp as spec
-use Rattle.tw_rounds.specs.Warp.{HasRun, IsRight, IsStuck, IsStuckAt, Warp}
-use Rattle.tw_rule.proofs.Opens.{rule_opens}
+use Rattle.tw_rounds.specs.Warp.{HasRun, IsRight, IsStuck, Warp}
 use Rattle.tw_rule.proofs.Places.{get_map}
 use Rattle.tw_rule.proofs.Ruled.{before_of, handled_of}
-use Rattle.tw_rule.specs.Rule.{AreOpeningPlaces, IsOpeningPlace}
-use Rattle.tw_sim.proofs.Counts.{in_filter, times-filter-no, times-filter-yes, times-insert_all}
+use Rattle.tw_sim.proofs.Counts.{in_filter}
 use Rattle.tw_sim.proofs.Least.{least_is}
 use Rattle.tw_sim.specs.declared.machine.Signed.{Signed}
 use Rattle.tw_sim.specs.Seq.{log}
-use Rattle.tw_sim.specs.Simulation.{Simulation, IsLawful, IsNumbered, below, only, state, times}
+use Rattle.tw_sim.specs.Simulation.{Simulation, below, only, state, times}
 
 -- the run that some processes are
 abbrev pub warp_of : {M E : Type 0} → M → ℕ → ℕ → List (Mailed M E) → Warp M E
@@ -101,51 +98,3 @@ module _ {S M E : Type 0} (m : Simulation S E) (model : M) (stop bound : ℕ) (f
         there = get_map (λ (y : Mailed M E). y.process) xs some.number x some.there;
         stuck = record { event = e; first = why.1; time = omega arith; full = subst (λ older. m.full (state m p.number older) e ≡ true) (there (bound + 1) p) why.3 };
       }
-
--- ---- the beginning
-
-module _ {S M E : Type 0} (m : Simulation S E) (law : IsLawful m) where
-  opening_place : (model : M) (w : ℕ) → IsOpeningPlace m self w (place_of (opening_of m model w))
-  opening_place model w = record {
-    worker = refl;
-    owns = λ r l. refl;
-    history = λ r. elim (cases_Bool (r == w)) [ inl b ↦ rw b refl | inr b ↦ rw b refl ];
-    pending = λ e. times-insert_all m e (only m w m.opening) [] ∙ elim (cases_Bool (m.dst e == w)) [
-      | inl b ↦ (let k = times-filter-yes m law (λ x. m.dst x == w) e m.opening b in rw b (omega arith))
-      | inr b ↦ (let k = times-filter-no m law (λ x. m.dst x == w) e m.opening b in rw b (omega arith))
-    ];
-    kept = refl;
-    outgoing = refl;
-    held = refl;
-    done = λ r. elim (cases_Bool (r == w)) [ inl b ↦ rw b refl | inr b ↦ rw b refl ];
-    past = λ r. elim (cases_Bool (r == w)) [ inl b ↦ rw b refl | inr b ↦ rw b refl ];
-    bound = refl;
-    mail = refl;
-    unsent = refl;
-  }
-
-  opening_places : (model : M) (w : ℕ) (xs : List (Mailed M E)) → ((i : ℕ) (x : Mailed M E) → slice_get xs i ≡ Some x → x ≡ opening_of m model (w + i)) → AreOpeningPlaces m self w (map place_of xs)
-  opening_places model w [] each = tt
-  opening_places model w (x ∷ xs) each = (
-    subst (λ y. IsOpeningPlace m self w (place_of y)) (sym (each 0 x refl ∙ ap (opening_of m model) (omega arith))) (opening_place model w),
-    opening_places model (suc w) xs (λ i y at. each (suc i) y at ∙ ap (opening_of m model) (omega arith)),
-  )
-
-  pub are_opened : IsNumbered m → (model : M) (xs : List (Mailed M E)) → length xs ≡ m.routers → ((i : ℕ) (x : Mailed M E) → slice_get xs i ≡ Some x → x ≡ opening_of m model i) → AreRuled m model 0 0 [] xs
-  are_opened numbered model xs count each = record {
-    law = law;
-    numbered = numbered;
-    count = count;
-    each = λ i x at. (ap (λ y. y.process.number) (each i x at), ap (λ y. y.process.model) (each i x at));
-    rule = rule_opens m law self (board_of (length xs) [] 0 0) (map place_of xs)
-        (record { mail = refl; reports = ap (λ n. replicate n (Some 0)) (sym (length-map xs place_of)); bound = refl })
-        (opening_places model 0 xs (λ i x at. each i x at ∙ ap (opening_of m model) (omega arith)))
-        (λ r l. (let same = length-map xs place_of in omega arith));
-  }
-
-  -- nobody has handled anything
-  pub none_handled : (model : M) (xs : List (Mailed M E)) → ((i : ℕ) (x : Mailed M E) → slice_get xs i ≡ Some x → x ≡ opening_of m model i) → (r : ℕ) → spec.handled r (warp_of model 0 0 xs) ≡ []
-  none_handled model xs each r = elim (cases_lt r (length xs)) [
-    | inl l ↦ (let x = there_at xs r l in handled_at model 0 0 xs r x.0 x.1 ∙ ap (λ y. history y.process) (each r x.0 x.1))
-    | inr ge ↦ ap (λ o. option_map_or history o []) (beyond (λ (y : Mailed M E). y.process) xs r ge)
-  ]

@@ -6,8 +6,8 @@ use Rattle.tw_engine.specs.Process.{Logical, history, process_core}
 use Rattle.tw_rule.specs.Place.{IsPlace, Place, PreservesPlace}
 use Rattle.tw_sim.specs.declared.machine.Cancel.TheVariants.{Aggressive}
 use Rattle.tw_sim.specs.declared.machine.Signed.{Signed}
-use Rattle.tw_sim.specs.Seq.{insert, insert_all}
-use Rattle.tw_sim.specs.Simulation.{IsLawful, Simulation, only}
+use Rattle.tw_sim.specs.Seq.{insert}
+use Rattle.tw_sim.specs.Simulation.{IsLawful, Simulation}
 
 -- a process, the messages that it was handed and has not received, and those that it has to send on, and the time that it
 -- tells for its share
@@ -74,10 +74,6 @@ module _ {S M E : Type 0} (m : Simulation S E) where
   -- an event more waits for a process
   abbrev pub awaiting : E → Mailed M E → Mailed M E
   awaiting e x = record x { process = record x.process { pending = insert m e x.process.pending } }
-
-  -- the process of this number as it begins: its opening events are pending
-  abbrev pub opening_of : M → ℕ → Mailed M E
-  opening_of model number = record (beginning_of model number) { process = record ((beginning_of model number).process) { pending = insert_all m (only m number m.opening) [] } }
 
   -- a process is a place of the rule, to this stop
   pub record IsSound (stop : ℕ) (x : Mailed M E) : Type 0 where

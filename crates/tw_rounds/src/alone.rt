@@ -1,11 +1,10 @@
 //! One thread goes on alone.
 
-ghost use Rattle.std.specs.Prelude.{ℕ, ◌+◌, ◌≡◌, ◌≤◌, ◌<◌, [], Some, IfNone, IfOk, IfSome, IsErrOf, OnErr, OnOk, length, max, slice_get};
+ghost use Rattle.std.specs.Prelude.{ℕ, ◌+◌, ◌≡◌, ◌≤◌, ◌<◌, [], Some, IfNone, IfOk, IfSome, IsErrOf, OnErr, OnOk, max};
 ghost use Rattle.tw_process.specs.Behaviour.{simulation_of};
 ghost use Rattle.tw_process.specs.declared.refused.Refused.TheVariants.{CounterFull};
 ghost use Rattle.tw_rounds.specs.Alone.{IsAlone, IsFullNext, bound_of};
 ghost use Rattle.tw_sequential.specs.Run.{IsNext, IsNextRun, NoneBefore};
-ghost use Rattle.tw_sim.specs.Seq.{begin};
 ghost use Rattle.tw_sim.specs.Simulation.{only, state, times};
 
 use crate::counts::Counts;

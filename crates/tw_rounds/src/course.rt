@@ -1,7 +1,7 @@
 //! Which way a run goes on, by one thread alone or in rounds by several, and how far. Nothing here changes what is
 //! computed, only how soon.
 
-ghost use Rattle.std.specs.Prelude.{◌≡◌, ◌≤◌, ◌<◌};
+ghost use Rattle.std.specs.Prelude.{◌≤◌, ◌<◌};
 
 use std::io;
 use std::time::{Clock, Duration};

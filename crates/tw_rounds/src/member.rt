@@ -1,6 +1,6 @@
 //! A logical process with what its share has to send on.
 
-ghost use Rattle.std.specs.Prelude.{ℕ, ◌+◌, ◌^◌, ◌≡◌, ◌<◌, ◌≤◌, ◌++◌, ◌∷◌, [], true, drop, vec_capacity, vec_len, IfOk, IsErrOf, OnErr, OnOk};
+ghost use Rattle.std.specs.Prelude.{ℕ, ◌+◌, ◌≡◌, ◌<◌, ◌≤◌, ◌++◌, ◌∷◌, [], true, drop, vec_capacity, vec_len, IfOk, IsErrOf, OnErr, OnOk};
 ghost use Rattle.std.specs.Bool.{OnTrue};
 ghost use Rattle.tw_core.specs.Steps.{IsRolledBack, after_arrival};
 ghost use Rattle.tw_engine.specs.Past.{log_after};

@@ -1,9 +1,9 @@
 //! All processes go on in rounds, each share of them in a thread.
 
-ghost use Rattle.std.specs.Prelude.{ℕ, ◌≡◌, ◌<◌, ◌≤◌, IfOk, IsErrOf, OnOk, max};
+ghost use Rattle.std.specs.Prelude.{◌≡◌, ◌<◌, ◌≤◌, IsErrOf, OnOk, max};
 ghost use Rattle.tw_process.specs.Behaviour.{simulation_of};
 ghost use Rattle.tw_process.specs.declared.refused.Refused.TheVariants.{CounterFull};
-ghost use Rattle.tw_rounds.specs.Warp.{HasRun, IsOpening, IsRight, IsSameRun, IsStuck, handled};
+ghost use Rattle.tw_rounds.specs.Warp.{HasRun, IsRight, IsSameRun, IsStuck, handled};
 ghost use Rattle.tw_sim.specs.Simulation.{state};
 
 mod changing;
@@ -14,7 +14,7 @@ use crate::least::{least_of, least_told};
 use crate::member::{Member, least_among};
 use crate::turning::{Round, turn_all};
 use crate::window::{Pace, limit_of, share_of};
-use std::alloc::{AllocError, Global};
+use std::alloc::AllocError;
 use std::marker::Model;
 use std::sync::Wait;
 use std::thread::Threads;

@@ -1,7 +1,7 @@
 //! The processes of a model as they begin, and what waits for them, which stands at each of them or, where one thread goes
 //! on alone, in one place.
 
-ghost use Rattle.std.specs.Prelude.{ℕ, ◌+◌, ◌≡◌, ◌<◌, ◌≤◌, ◌∷◌, [], true, Some, List, IfOk, IsErrOf, OnErr, OnOk, drop, length, slice_get, slice_set, vec_capacity, vec_len};
+ghost use Rattle.std.specs.Prelude.{ℕ, ◌≡◌, ◌<◌, ◌≤◌, ◌∷◌, [], true, Some, List, IfOk, IsErrOf, OnErr, OnOk, drop, length, slice_get, slice_set, vec_capacity, vec_len};
 ghost use Rattle.std.specs.Bool.{OnTrue};
 ghost use Rattle.std.specs.List.{AllByRecursion};
 ghost use Rattle.tw_core.specs.Parts.{total};
