@@ -36,6 +36,7 @@ def commands_of(measure: Sequence[int], stop: int, workers: Sequence[int]) -> di
         "plain Rust, calendar": [str(PLAIN), "calendar", *plain],
         "`seq`": [str(PROGRAM), "seq", *asked],
         **{f"`run --workers {count}`": [str(PROGRAM), "run", *asked, "--workers", str(count)] for count in workers},
+        **{f"`--rounds`, {count}": [str(PROGRAM), "run", "--rounds", *asked, "--workers", str(count)] for count in workers},
     }
 
 

@@ -50,3 +50,39 @@ returns-clause-full g c = λ x at.
     let same : get_or xs c.args.number read ≡ x = cc (here, at) in
     subst (λ (z : Mailed _ _). let m = sim z.process.model in IsErrOf c.handle_in_turn.result CounterFull → m.full (state m z.process.number z.process.past) c.args.event.now ≡ true) same
     c.handle_in_turn.ensures.full
+
+pub handle_in_turn-requires-clause-settled : goal.handle_in_turn-requires-clause-settled
+handle_in_turn-requires-clause-settled g c =
+    let xs = c.args.members.now in
+    let read = c.index-members-number.result in
+    c.requires.settled (get_or xs c.args.number read) (slice_get-get_or xs c.args.number read c.requires.here)
+
+pub handle_in_turn-requires-clause-own : goal.handle_in_turn-requires-clause-own
+handle_in_turn-requires-clause-own g c =
+    let xs = c.args.members.now in
+    let read = c.index-members-number.result in
+    c.requires.own (get_or xs c.args.number read) (slice_get-get_or xs c.args.number read c.requires.here)
+
+pub handle_in_turn-requires-clause-suits : goal.handle_in_turn-requires-clause-suits
+handle_in_turn-requires-clause-suits g c =
+    let xs = c.args.members.now in
+    let read = c.index-members-number.result in
+    c.requires.suits (get_or xs c.args.number read) (slice_get-get_or xs c.args.number read c.requires.here)
+
+pub handle_in_turn-requires-clause-time : goal.handle_in_turn-requires-clause-time
+handle_in_turn-requires-clause-time g c =
+    let xs = c.args.members.now in
+    let read = c.index-members-number.result in
+    c.requires.time (get_or xs c.args.number read) (slice_get-get_or xs c.args.number read c.requires.here)
+
+pub handle_in_turn-requires-clause-turn : goal.handle_in_turn-requires-clause-turn
+handle_in_turn-requires-clause-turn g c =
+    let xs = c.args.members.now in
+    let read = c.index-members-number.result in
+    c.requires.turn (get_or xs c.args.number read) (slice_get-get_or xs c.args.number read c.requires.here)
+
+pub handle_in_turn-requires-clause-room : goal.handle_in_turn-requires-clause-room
+handle_in_turn-requires-clause-room g c =
+    let xs = c.args.members.now in
+    let read = c.index-members-number.result in
+    c.requires.room (get_or xs c.args.number read) (slice_get-get_or xs c.args.number read c.requires.here)
