@@ -22,6 +22,10 @@ use tw_model::limits::MOST_LINKS;
 /// with consecutive numbers all have their own.
 const GUESSES: usize = 64;
 
+/// Of so many neighbours of a router at most, others have the remainders too, where it keeps guesses: finding these
+/// few by counting costs less than counting for all.
+const MOST_ASIDE: usize = 8;
+
 /// What stands behind the last neighbour in an order. No router has this number.
 const NOBODY: u16 = u16::MAX;
 
@@ -33,7 +37,7 @@ struct Guess {
 }
 
 /// The neighbours of each router in ascending order, in compressed sparse rows, with the slots of most of
-/// them by the remainders of their numbers. Where some have one remainder, slots are found by counting.
+/// them by the remainders of their numbers. The slots of the others are found by counting.
 #[derive(Drop, Debug)]
 pub struct Peers {
     /// Where the row of each router begins, and behind these where the last one ends.
@@ -44,8 +48,6 @@ pub struct Peers {
     guesses: Vec<[Guess; GUESSES]>,
     /// Of each router its neighbours in ascending order, and nobody behind them.
     orders: Vec<[u16; MOST_LINKS]>,
-    /// Whether two neighbours of the router have one remainder.
-    crowded: Vec<bool>,
     ghost cuts: { (r : ℕ) → r + 1 < length starts.items → IsRowWithin starts.items r (length neighbours.items) },
     ghost guessed: { length starts.items ≡ length guesses.items + 1 },
 }
@@ -60,13 +62,11 @@ impl Peers {
         let (starts, neighbours) = rows_of(alloc, instance)?;
         let guesses = guesses_of(alloc, instance)?;
         let orders = orders_of(alloc, instance)?;
-        let crowded = crowded_of(alloc, instance)?;
         Ok(Peers {
             starts,
             neighbours,
             guesses,
             orders,
-            crowded,
         })
     }
 
@@ -79,24 +79,31 @@ impl Peers {
         if index + 1 >= self.starts.len() {
             return None;
         }
-        if let Some(slot) = self.slot_by_order(index, peer) {
-            return Some(slot);
-        }
         let guess = self.guesses[index][peer as usize % GUESSES];
         if u32::from(guess.peer) == peer {
             return Some(usize::from(guess.slot));
         }
+        self.slot_aside(index, peer)
+    }
+
+    // Not inlined, since its vectors would take registers on the way of the neighbours that the guess is for.
+    /// The slot of a neighbour that the guess is not for.
+    #[inline(never)]
+    fn slot_aside(&self, index: usize, peer: u32) -> Option<usize>
+        requires { index + 1 < length self.now.starts.items }
+        ensures { (net : Net) → HasPeers net self.now → SomeIff result (IsTrue (has_peer net index peer)) (slot_of net index peer) }
+    {
+        if let Some(slot) = self.slot_by_order(index, peer) {
+            return Some(slot);
+        }
         first_equal(self.row(index), peer)
     }
 
-    /// The slot of a neighbour of a router that is crowded.
+    /// The slot of a neighbour by counting those below it.
     #[inline(always)]
     fn slot_by_order(&self, index: usize, peer: u32) -> Option<usize>
         ensures { (net : Net) → HasPeers net self.now → IfSome result (StandsAt (peers_of net index) peer) }
     {
-        if !matches!(self.crowded.get(index), Some(true)) {
-            return None;
-        }
         slot_in(self.orders.get(index)?, peer)
     }
 
@@ -111,9 +118,8 @@ impl Peers {
     }
 }
 
-// Not inlined, since its vectors would take registers on the way of the routers that need no count.
 /// The place of a number in an order, if it stands there: as many are below it.
-#[inline(never)]
+#[inline(always)]
 fn slot_in(order: &[u16; MOST_LINKS], peer: u32) -> Option<usize>
     ensures { (row : List ℕ) → StandAsIn row order.now → IfSome result (StandsAt row peer) }
 {
@@ -170,9 +176,21 @@ fn guesses_of(alloc: Global, instance: &Instance) -> Result<Vec<[Guess; GUESSES]
 {
     let mut guesses = Vec::with_capacity(alloc, instance.nodes() as usize)?;
     for node in 0..instance.nodes() {
-        guesses.push(slots_by_remainder(instance.hops(node)))?;
+        guesses.push(guesses_at(instance.hops(node)))?;
     }
     Ok(guesses)
+}
+
+/// The guesses of a router with these links: none where it is crowded, so that it is soon known that none serves.
+fn guesses_at(hops: &[Hop]) -> [Guess; GUESSES]
+    requires few { length hops.now ≤ MOST_LINKS }
+    requires low { All (λ h. h.peer < MOST_ROUTERS) hops.now }
+    ensures { AreGuesses (map (λ h. h.peer) hops.now) result }
+{
+    if is_crowded(hops) {
+        return no_guesses();
+    }
+    slots_by_remainder(hops)
 }
 
 /// By the remainder of a neighbour's number the neighbour and its slot, of several the last.
@@ -226,20 +244,11 @@ fn order_of(hops: &[Hop]) -> [u16; MOST_LINKS]
     order
 }
 
-/// Of each router whether two of its neighbours have one remainder.
-fn crowded_of(alloc: Global, instance: &Instance) -> Result<Vec<bool>, AllocError> {
-    let mut crowded = Vec::with_capacity(alloc, instance.nodes() as usize)?;
-    for node in 0..instance.nodes() {
-        crowded.push(is_crowded(instance.hops(node)))?;
-    }
-    Ok(crowded)
-}
-
-/// Whether two neighbours have one remainder.
+/// Whether many neighbours have the remainder of another.
 fn is_crowded(hops: &[Hop]) -> bool {
     let mut met = 0_u64;
     for hop in hops {
         met |= 1 << (hop.peer % GUESSES as u32);
     }
-    met.count_ones() as usize != hops.len()
+    met.count_ones() as usize + MOST_ASIDE < hops.len()
 }

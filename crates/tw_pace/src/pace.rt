@@ -25,12 +25,15 @@ const WORKED_FOR_EACH_WAITED: u64 = 10;
 
 /// Several are tried where what is left takes one thread so long at least: then a trial that is lost costs less than a
 /// user sees.
-const ENOUGH: u64 = 20_000;
+const ENOUGH: u64 = 40_000;
 
 /// Where threads that have nothing to do take longer to start and join, other work takes the processors, and workers wait
-/// for one another far longer than they work. On a quiet machine that takes a tenth of this. A trial is given so much
-/// more than one thread takes, up to its last stretch.
+/// for one another far longer than they work. On a quiet machine that takes a tenth to a fifth of this.
 const LONG_WAIT: u64 = 3_000;
+
+/// A trial is given so much more than one thread takes, up to its last stretch: the first stretches take milliseconds
+/// where they take one thread a tenth of one, since all memory of the workers is new to the system and to the processors.
+const WARMING: u64 = 8_000;
 
 /// Before several are tried, one thread goes on for about so long beside threads that are not done before it: two slices of
 /// a scheduler, so that other work has come to each processor that it takes.
@@ -41,15 +44,20 @@ const SOUNDING: u64 = 6_000;
 /// hundredth.
 const PARTS_FOR_ONE_MISSED: u64 = 16;
 
-/// Several are first tried on what takes one thread so long: some ten times what it takes to start a thread, and long
-/// enough for a clock to tell a twentieth.
-const TRIAL: u64 = 3_000;
+/// Where they miss more, one thread goes on for as long again as it has gone on, but for so many such laps at least: a
+/// scheduler sometimes lets two threads share a processor for milliseconds before it gives one another.
+const LEAST_PATIENCE: u64 = 5;
+
+/// Several are first tried on what takes one thread so long: the last stretch of that, which decides, is half of it, some
+/// ten times what it takes threads to start and to have at hand what they work on.
+const TRIAL: u64 = 12_000;
 
 /// The first stretch of the trial is what takes one thread so long, and each further one twice that. Beside other work
 /// workers may wait for milliseconds at each tick, so the first has few of them.
 const FIRST_STRETCH: u64 = 100;
 
-/// They go on where the trial took a twentieth less than one thread: less is within what a clock tells of it.
+/// They go on where the last stretch of the trial took a twentieth less than one thread: less is within what a clock
+/// tells of it.
 const TWENTIETHS: u64 = 19;
 
 /// A stretch by several that takes less is followed by one of twice the ticks: between stretches all threads are joined
@@ -185,14 +193,16 @@ impl Alone {
         end_within(self.ticks, length, stop)
     }
 
-    /// In that lap there was no processor for each of them: it is patient for as long as makes that lap a small part.
+    /// In that lap there was no processor for each of them: it is patient for as long again, and at most for so long
+    /// that such laps are a small part.
     pub fn hindered(self) -> Alone
         ensures { result.ticks ≡ self.ticks }
     {
+        let longer = self
+            .micros
+            .clamp(SOUNDING * LEAST_PATIENCE, SOUNDING * PATIENCE);
         Alone {
-            patience: self
-                .micros
-                .saturating_add(SOUNDING.saturating_mul(PATIENCE)),
+            patience: self.micros.saturating_add(longer),
             ..self
         }
     }
@@ -231,8 +241,7 @@ pub struct Course {
     starting: u64,
     // Of the next stretch, in ticks.
     length: u64,
-    // All stretches so far: how many they are, what they took, and what one thread would have taken.
-    stretches: u64,
+    // All stretches so far: what they took, and what one thread would have taken.
     micros: u64,
     by_one: u64,
     // What several took more than one thread would have, where that counts.
@@ -256,7 +265,6 @@ impl Course {
             opening,
             starting,
             length: in_proportion(FIRST_STRETCH, alone.last.ticks, alone.last.micros),
-            stretches: 0,
             micros: 0,
             by_one: 0,
             lost: if starting > LONG_WAIT { Some(0) } else { None },
@@ -292,14 +300,13 @@ impl Course {
             } else {
                 length.saturating_mul(2)
             },
-            stretches: self.stretches.saturating_add(1),
             micros: self.micros.saturating_add(micros),
             by_one: self.by_one.saturating_add(by_one),
             ..self
         };
         Course {
             lost: if self.by_one < TRIAL {
-                later.loss_of_trial()
+                later.loss_of_trial(micros, by_one)
             } else {
                 more_than(micros, by_one)
             },
@@ -307,22 +314,27 @@ impl Course {
         }
     }
 
-    /// What is lost by the trial so far: in its middle it may take longer than one thread, but not as beside other work;
-    /// at its end a twentieth is to be won, and starting the threads does not count. A clock that stood still while one
-    /// thread went on tells nothing.
-    fn loss_of_trial(self) -> Option<u64> {
+    /// What is lost by the trial so far, whose last stretch took so long, and one thread so long: in its middle it may
+    /// take longer than one thread, but not as beside other work; at its end a twentieth is to be won, and starting the
+    /// threads does not count. A clock that stood still while one thread went on tells nothing.
+    fn loss_of_trial(self, micros: u64, by_one: u64) -> Option<u64> {
         let is_lost = if self.by_one < TRIAL {
-            self.alone.micros == 0 || self.micros > self.by_one.saturating_add(LONG_WAIT)
+            self.alone.micros == 0 || self.micros > self.by_one.saturating_add(self.warming())
         } else {
-            let starts = self.starting.saturating_mul(self.stretches);
-            let work = self.micros.saturating_sub(starts);
-            work.saturating_mul(20) >= self.by_one.saturating_mul(TWENTIETHS)
+            let work = micros.saturating_sub(self.starting);
+            work.saturating_mul(20) >= by_one.saturating_mul(TWENTIETHS)
         };
         if is_lost {
             Some(self.micros.saturating_sub(self.by_one))
         } else {
             None
         }
+    }
+
+    /// How much more than one thread a trial may take up to its last stretch: where it took long to begin, there is much
+    /// that is new.
+    fn warming(self) -> u64 {
+        self.opening.saturating_add(WARMING)
     }
 
     /// Whether one thread is to go on.

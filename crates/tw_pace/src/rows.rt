@@ -22,33 +22,36 @@ fn a_run_with_few_events_stays_on_one_thread(rt: HostRuntime) {
     assert!(rt; alone.next_end(20) == 15);
     assert!(rt; alone.next_end(10) == 10);
     assert!(rt; !alone.is_trial_due(1_000_000_000));
-    // Some 19,994 microseconds are left, and then 20,000.
-    assert!(rt; !steady().is_trial_due(3_200 + 3_199));
-    assert!(rt; steady().is_trial_due(3_200 + 3_200));
+    // Some 39,993 microseconds are left, and then 40,000.
+    assert!(rt; !steady().is_trial_due(3_200 + 6_399));
+    assert!(rt; steady().is_trial_due(3_200 + 6_400));
 }
 
-/// Their first four stretches, which took 2,600 microseconds; one thread takes 100, 200, 400 and 800.
+/// Their first six stretches, which took 7,000 microseconds; one thread takes 100, 200, 400, 800, 1,600 and 3,200.
 fn tried() -> Course {
     opened()
         .stretch(3_216, 643_200, 400)
         .stretch(3_248, 649_600, 500)
         .stretch(3_312, 662_400, 700)
         .stretch(3_440, 688_000, 1_000)
+        .stretch(3_696, 739_200, 1_600)
+        .stretch(4_208, 841_600, 2_800)
 }
 
-/// They have won their trial, in 4,400 microseconds, 1,500 of them for threads; one thread takes 3,100.
+/// They have won their trial, in 12,400 microseconds, of which the last stretch took 5,400, 300 of them for threads; one
+/// thread takes 12,700, and 6,400 of them for that stretch.
 fn won() -> Course {
-    tried().stretch(3_696, 739_200, 1_800)
+    tried().stretch(5_232, 1_046_400, 5_400)
 }
 
 #[test]
 fn several_go_on_where_the_trial_took_a_twentieth_less(rt: HostRuntime) {
     assert!(rt; opened().next_end(10_000) == Some(3_216));
-    assert!(rt; tried().next_end(10_000) == Some(3_696));
+    assert!(rt; tried().next_end(10_000) == Some(5_232));
     assert!(rt; !tried().is_over());
-    // A twentieth less than 3,100 are 2,945, and 1,500 more start the threads of five stretches.
-    assert!(rt; !tried().stretch(3_696, 739_200, 1_844).is_over());
-    assert!(rt; tried().stretch(3_696, 739_200, 1_845).is_over());
+    // A twentieth less than the 6,400 of the last stretch are 6,080, and 300 more start its threads.
+    assert!(rt; !tried().stretch(5_232, 1_046_400, 6_379).is_over());
+    assert!(rt; tried().stretch(5_232, 1_046_400, 6_380).is_over());
 }
 
 #[test]
@@ -60,18 +63,18 @@ fn a_stretch_in_which_nothing_happens_tells_nothing(rt: HostRuntime) {
 
 #[test]
 fn beside_other_work_a_trial_ends_with_a_stretch(rt: HostRuntime) {
-    // One thread takes 100 microseconds; other work, some 3,000 and more.
-    assert!(rt; !opened().stretch(3_216, 643_200, 3_100).is_over());
-    let lost = opened().stretch(3_216, 643_200, 3_101);
+    // One thread takes 100 microseconds; workers whose memory is new, up to 8,000 more, and the 900 that they began in.
+    assert!(rt; !opened().stretch(3_216, 643_200, 9_000).is_over());
+    let lost = opened().stretch(3_216, 643_200, 9_001);
     assert!(rt; lost.is_over());
-    // It lost 3,001 microseconds, 900 to begin and 99 to end: 80,000 is twenty times as much.
+    // It lost 8,901 microseconds, 900 to begin and 99 to end: 198,000 is twenty times as much.
     let alone = lost.go_on_alone(99);
-    assert!(rt; !alone.lap(3_232, 79_999, 0).is_trial_due(1_000_000));
-    assert!(rt; alone.lap(3_232, 80_000, 0).is_trial_due(1_000_000));
+    assert!(rt; !alone.lap(3_232, 197_999, 0).is_trial_due(1_000_000));
+    assert!(rt; alone.lap(3_232, 198_000, 0).is_trial_due(1_000_000));
     // Two stretches take one thread 300 microseconds.
     let late = opened().stretch(3_216, 643_200, 2_000);
-    assert!(rt; !late.stretch(3_248, 649_600, 1_300).is_over());
-    assert!(rt; late.stretch(3_248, 649_600, 1_301).is_over());
+    assert!(rt; !late.stretch(3_248, 649_600, 7_200).is_over());
+    assert!(rt; late.stretch(3_248, 649_600, 7_201).is_over());
 }
 
 #[test]
@@ -114,10 +117,17 @@ fn a_lap_beside_other_threads_takes_some_milliseconds(rt: HostRuntime) {
     let alone = steady().lap(3_280, 500, 0);
     assert!(rt; alone.sounding_end(10_000) == 4_240);
     assert!(rt; alone.sounding_end(4_000) == 4_000);
-    // It is patient for twenty times as long.
+    // It has gone on for 20,000, and is patient for five times as long as such a lap takes.
     let hindered = steady().hindered();
-    assert!(rt; !hindered.lap(3_216, 119_999, 0).is_trial_due(1_000_000));
-    assert!(rt; hindered.lap(3_216, 120_000, 0).is_trial_due(1_000_000));
+    assert!(rt; !hindered.lap(3_216, 29_999, 0).is_trial_due(1_000_000));
+    assert!(rt; hindered.lap(3_216, 30_000, 0).is_trial_due(1_000_000));
+    // Then for as long again as it has gone on, and in the end for twenty times as long as such a lap takes.
+    let again = hindered.lap(3_216, 30_000, 0).hindered();
+    assert!(rt; !again.lap(3_232, 49_999, 0).is_trial_due(1_000_000));
+    assert!(rt; again.lap(3_232, 50_000, 0).is_trial_due(1_000_000));
+    let late = again.lap(3_232, 150_000, 0).hindered();
+    assert!(rt; !late.lap(3_248, 119_999, 0).is_trial_due(1_000_000));
+    assert!(rt; late.lap(3_248, 120_000, 0).is_trial_due(1_000_000));
 }
 
 #[test]
@@ -135,26 +145,26 @@ fn a_clock_that_stands_still_or_goes_back_leaves_one_thread(rt: HostRuntime) {
 
 #[test]
 fn a_phase_that_workers_lose_ends_their_run(rt: HostRuntime) {
-    assert!(rt; won().next_end(1_000_000) == Some(4_208));
-    // 512 ticks take one thread 3,200 microseconds, and them as long.
-    let even = won().stretch(4_208, 841_600, 3_200);
+    assert!(rt; won().next_end(1_000_000) == Some(7_280));
+    // 2,048 ticks take one thread 12,800 microseconds, and them as long.
+    let even = won().stretch(7_280, 1_456_000, 12_800);
     assert!(rt; !even.is_over());
-    let lost = even.stretch(5_232, 1_046_400, 56_400);
+    let lost = even.stretch(9_328, 1_865_600, 62_800);
     assert!(rt; lost.is_over());
     // A stretch that took long is followed by one of as many ticks.
-    assert!(rt; lost.next_end(1_000_000) == Some(6_256));
-    assert!(rt; lost.next_end(6_000) == Some(6_000));
-    assert!(rt; lost.next_end(5_232).is_none());
+    assert!(rt; lost.next_end(1_000_000) == Some(11_376));
+    assert!(rt; lost.next_end(10_000) == Some(10_000));
+    assert!(rt; lost.next_end(9_328).is_none());
     // The stretch lost 50 milliseconds, besides what it took to begin and to end.
     let alone = lost.go_on_alone(100);
-    assert!(rt; !alone.lap(5_248, 1_019_999, 0).is_trial_due(1_000_000));
-    assert!(rt; alone.lap(5_248, 1_020_000, 0).is_trial_due(1_000_000));
+    assert!(rt; !alone.lap(9_344, 1_019_999, 0).is_trial_due(1_000_000));
+    assert!(rt; alone.lap(9_344, 1_020_000, 0).is_trial_due(1_000_000));
 }
 
 #[test]
 fn one_thread_is_tried_again_now_and_then(rt: HostRuntime) {
-    assert!(rt; !won().stretch(500_000, 100_000_000, 2_175_599).is_over());
-    let long = won().stretch(500_000, 100_000_000, 2_175_600);
+    assert!(rt; !won().stretch(500_000, 100_000_000, 2_167_599).is_over());
+    let long = won().stretch(500_000, 100_000_000, 2_167_600);
     assert!(rt; long.is_over());
     assert!(rt;
         long.go_on_alone(0)

@@ -24,10 +24,10 @@ pub(crate) fn go_on_to<X: Clock + CpuClock>(
     ensures ticks { IfOk result (λ later. later.ticks ≡ end) }
     ensures full { (stop : ℕ) → end ≤ stop → IsErrOf result (or_memory.Fault counter_full) → GetsStuck run.old.run.case stop }
 {
-    let (start, used) = (micros(clock), processor_micros(clock));
+    let (start, used) = (micros(clock), thread_micros(clock));
     run.run_to(end)?;
     let took = micros(clock).saturating_sub(start);
-    let worked = processor_micros(clock).saturating_sub(used);
+    let worked = thread_micros(clock).saturating_sub(used);
     Ok(alone.lap(end, took, took.saturating_sub(worked)))
 }
 
@@ -36,9 +36,9 @@ pub(crate) fn micros(clock: &impl Clock) -> u64 {
     shown(clock.monotonic())
 }
 
-/// How long this process has had processors so far, in microseconds.
-pub(crate) fn processor_micros(clock: &impl CpuClock) -> u64 {
-    shown(clock.process_cpu_time())
+/// How long this thread has had processors so far, in microseconds.
+pub(crate) fn thread_micros(clock: &impl CpuClock) -> u64 {
+    shown(clock.thread_cpu_time())
 }
 
 /// The time that a clock shows, in microseconds; a clock that cannot be read stands still.

@@ -38,9 +38,23 @@ const LONGEST_WAIT: u64 = 64;
 /// undoing these would need stays small enough for the nearest caches.
 const HANDLED_FOR_EACH_COMMIT: u64 = 4_096;
 
-/// How often an idle worker looks at what is told beside the table before it sleeps: some 80 microseconds, as long as
-/// the shortest sleep takes. A worker that sleeps comes back late, and those that wait for it would then sleep as well.
-pub(crate) const LOOKS: u32 = 16_384;
+/// How often an idle worker looks at what is told beside the table before it sleeps: for half a millisecond, much longer
+/// than a turn of another worker takes. A worker that sleeps comes back late, by 80 microseconds or more, and those that
+/// wait for it would then sleep as well.
+const MANY_LOOKS: u32 = 262_144;
+
+/// How often it looks where so many looks were in vain: another worker waits for a processor then, and gets one sooner
+/// from those that sleep than from those that look.
+const FEW_LOOKS: u32 = 16_384;
+
+/// After many looks in vain a worker looks seldom for so many rests, and after each further time for twice as many.
+const FIRST_SHORT_RESTS: u32 = 8;
+
+/// For so many at most, so that it still follows a machine on which processors become free.
+const MOST_SHORT_RESTS: u32 = 1_024;
+
+/// Where so many rests with many looks were not in vain, it looks seldom for half as many rests the next time.
+const RESTS_OF_A_CALM: u32 = 256;
 
 /// How long it sleeps between two looks from then on, in microseconds: where other work takes the processors, one
 /// that sleeps gets its own back much sooner than one that spins or yields.
@@ -125,6 +139,54 @@ impl Span {
     }
 }
 
+/// How long an idle worker looks before it sleeps.
+#[derive(Clone, Copy)]
+struct Rests {
+    // For how many rests more it looks seldom.
+    short: u32,
+    // And for how many after the next time that it looked often in vain.
+    next_short: u32,
+    // How many rests with many looks since then were not in vain.
+    calm: u32,
+}
+
+impl Rests {
+    const NONE: Rests = Rests {
+        short: 0,
+        next_short: FIRST_SHORT_RESTS,
+        calm: 0,
+    };
+
+    fn looks(&self) -> u32 {
+        if self.short > 0 {
+            FEW_LOOKS
+        } else {
+            MANY_LOOKS
+        }
+    }
+
+    /// A rest is over in which the worker slept so often.
+    fn add(&mut self, naps: u32) {
+        if self.short > 0 {
+            self.short -= 1;
+        } else if naps > 0 {
+            self.short = self.next_short;
+            self.next_short = cmp::min(MOST_SHORT_RESTS, self.next_short.saturating_mul(2));
+            self.calm = 0;
+        } else {
+            self.count_calm();
+        }
+    }
+
+    fn count_calm(&mut self) {
+        self.calm = self.calm.saturating_add(1);
+        if self.calm >= RESTS_OF_A_CALM {
+            self.next_short = cmp::max(FIRST_SHORT_RESTS, self.next_short / 2);
+            self.calm = 0;
+        }
+    }
+}
+
 /// How a worker paces itself.
 #[derive(Clone, Copy)]
 pub(crate) struct Pace {
@@ -146,6 +208,7 @@ pub(crate) struct Pace {
     wait: u64,
     // And how many after its next fall.
     next_wait: u64,
+    rests: Rests,
 }
 
 impl Pace {
@@ -165,6 +228,7 @@ impl Pace {
             span: Span::NONE,
             wait: 0,
             next_wait: FIRST_WAIT,
+            rests: Rests::NONE,
         }
     }
 
@@ -212,10 +276,18 @@ impl Pace {
         }
     }
 
-    /// A meeting is over.
-    pub(crate) fn begin_turn(&mut self) {
+    /// A meeting is over, and so is the rest behind it, if there was one, in which the worker slept so often.
+    pub(crate) fn begin_turn(&mut self, naps: Option<u32>) {
         self.handled_at_meeting = self.handled;
         self.undone = 0;
+        if let Some(naps) = naps {
+            self.rests.add(naps);
+        }
+    }
+
+    /// How often the worker looks at what is told before it sleeps, where it has nothing to do.
+    pub(crate) fn looks(&self) -> u32 {
+        self.rests.looks()
     }
 
     /// An event of this time was handled.
@@ -254,6 +326,16 @@ impl Pace {
         }
     }
 
+    /// By how much the window grows: until its first fall it becomes twice as wide, so that it is soon as wide as serves.
+    fn growth(&self) -> u64 {
+        let part = if self.next_wait == FIRST_WAIT {
+            self.window
+        } else {
+            self.window / 4
+        };
+        part.saturating_add(1)
+    }
+
     /// The window falls where much was undone in a span, and grows where it kept the worker from handling more.
     fn judge(&mut self) {
         if self.span.has_much_undone() {
@@ -263,7 +345,7 @@ impl Pace {
         } else if self.wait > 0 {
             self.wait -= 1;
         } else if self.span.ends_at_window() {
-            let wider = self.window.saturating_add(self.window / 4 + 1);
+            let wider = self.window.saturating_add(self.growth());
             self.window = cmp::max(self.least_window, cmp::min(WIDEST_WINDOW, wider));
         }
     }

@@ -4,7 +4,7 @@ ghost use Rattle.tw_workers.specs.Seated.{HasTurned, IsSeated};
 ghost use Rattle.tw_workers.specs.Work.{IsAtWork, IsIdle};
 
 use crate::gate::Gate;
-use crate::policy::{LOOKS, NAP_MICROS, NAPS, longest_nap};
+use crate::policy::{NAP_MICROS, NAPS, longest_nap};
 use crate::worker::Worker;
 use std::hint;
 use std::sync::Wait;
@@ -41,17 +41,43 @@ impl<'a> Worker<'a> {
     }
 
     /// Where it has nothing to do after a turn that it began with this bound, it waits until it may have, or
-    /// for a while: the others get on sooner where the exchange and the processor are left to them.
-    pub(crate) fn rest<G: Gate, R: Wait>(&self, rt: &R, table: &Table, gate: &G, known: u64) {
+    /// for a while: the others get on sooner where the exchange and the processor are left to them. It is answered how
+    /// often it slept.
+    pub(crate) fn rest<G: Gate, R: Wait>(
+        &self,
+        rt: &R,
+        table: &Table,
+        gate: &G,
+        known: u64,
+    ) -> Option<u32> {
         let least = self.least_time();
-        if !self.has_work(known, least) {
-            let worker = self.shard.worker();
-            let longest = longest_nap(self.shard.router_count());
-            let next = least.min(self.least_mail_time());
-            gate.waiting(worker);
-            let naps = wait_for_news(rt, table, self.awaited(next), longest);
-            gate.waited(worker, naps);
+        if self.has_work(known, least) {
+            return None;
         }
+        let worker = self.shard.worker();
+        let next = least.min(self.least_mail_time());
+        gate.waiting(worker);
+        let naps = self.wait_for_news(rt, table, self.awaited(next));
+        gate.waited(worker, naps);
+        Some(naps)
+    }
+
+    /// Waits until what is awaited is told, or for a while: it looks again and again at first, and then sleeps in
+    /// between. It is answered how often it slept.
+    fn wait_for_news<R: Wait>(&self, rt: &R, table: &Table, awaited: Awaited) -> u32 {
+        if is_told_soon(table, awaited, self.pace.looks()) {
+            return 0;
+        }
+        let longest = longest_nap(self.shard.router_count());
+        let mut micros = NAP_MICROS;
+        for nap in 1..=NAPS {
+            Parker::new().park_timeout(rt, Duration::from_micros(micros));
+            micros = longest.min(micros.saturating_mul(2));
+            if awaited.is_told(table) {
+                return nap;
+            }
+        }
+        NAPS
     }
 
     /// Whether a turn may do something: there is mail for it, or the end is reached, or a router may handle its next
@@ -137,26 +163,9 @@ impl Awaited {
     }
 }
 
-/// Waits until what is awaited is told, or for a while: it looks again and again at first, and then sleeps in
-/// between. It is answered how often it slept.
-fn wait_for_news<R: Wait>(rt: &R, table: &Table, awaited: Awaited, longest: u64) -> u32 {
-    if is_told_soon(table, awaited) {
-        return 0;
-    }
-    let mut micros = NAP_MICROS;
-    for nap in 1..=NAPS {
-        Parker::new().park_timeout(rt, Duration::from_micros(micros));
-        micros = longest.min(micros.saturating_mul(2));
-        if awaited.is_told(table) {
-            return nap;
-        }
-    }
-    NAPS
-}
-
 /// Whether what is awaited is told at one of so many looks.
-fn is_told_soon(table: &Table, awaited: Awaited) -> bool {
-    for _ in 0..LOOKS {
+fn is_told_soon(table: &Table, awaited: Awaited, looks: u32) -> bool {
+    for _ in 0..looks {
         if awaited.is_told(table) {
             return true;
         }

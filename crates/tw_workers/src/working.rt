@@ -67,8 +67,8 @@ impl<'a> Worker<'a> {
                 return (next, leaving);
             }
             seat = next;
-            self.rest(rt, table, gate, known);
-            self.pace.begin_turn();
+            let naps = self.rest(rt, table, gate, known);
+            self.pace.begin_turn(naps);
         }
         unreachable!()
     }

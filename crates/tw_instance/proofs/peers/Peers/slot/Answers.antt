@@ -9,14 +9,6 @@ use Rattle.tw_instance.proofs.Guesses.{guessed}
 use Rattle.tw_instance.proofs.Indexed.{at_slot, is_slot, slot_map}
 use Rattle.tw_instance.proofs.peers.Peers.slot.Goals as goal
 
-pub returns-in-Some : goal.returns-in-Some
-returns-in-Some c net h =
-    let v = c.args.node in
-    let w = c.args.peer in
-    let k = c.in-Some.slot in
-    let stands : StandsAt (peers_of net v) w k = c.in-Some.ensures net h in
-    at_slot net v w k (let n = length-map (hops_of net v) (λ h. h.peer) in let l = stands.0 in omega arith) stands.1
-
 pub returns-then-from-peer : goal.returns-then-from-peer
 returns-then-from-peer c net h =
     let v = c.args.node in
@@ -28,10 +20,3 @@ returns-then-from-peer c net h =
     let is = guessed (peers_of net v) gs (record { peer = 0; slot = 0 }) w all (sym c.from.ensures ∙ c.if-from-peer.true) in
     let within : c.from-then-from-peer.result < length (hops_of net v) = (let e = c.from-then-from-peer.ensures in let n = length-map (hops_of net v) (λ h. h.peer) in let l = is.0 in omega arith) in
     at_slot net v w c.from-then-from-peer.result within (ap (λ k. get_or (peers_of net v) k 0) c.from-then-from-peer.ensures ∙ is.1)
-
-pub returns : goal.returns
-returns c net h =
-    let v = c.args.node in
-    let w = c.args.peer in
-    let row = c.row.ensures ∙ h.rows v in
-    is_slot net v w c.first_equal.result (c.first_equal.ensures ∙ (ap (position (λ o. o == w)) row ∙ slot_map w (hops_of net v)))
