@@ -44,10 +44,6 @@ const SOUNDING: u64 = 6_000;
 /// hundredth.
 const PARTS_FOR_ONE_MISSED: u64 = 16;
 
-/// Where they miss more, one thread goes on for as long again as it has gone on, but for so many such laps at least: a
-/// scheduler sometimes lets two threads share a processor for milliseconds before it gives one another.
-const LEAST_PATIENCE: u64 = 5;
-
 /// Several are first tried on what takes one thread so long: the last stretch of that, which decides, is half of it, some
 /// ten times what it takes threads to start and to have at hand what they work on.
 const TRIAL: u64 = 12_000;
@@ -193,16 +189,14 @@ impl Alone {
         end_within(self.ticks, length, stop)
     }
 
-    /// In that lap there was no processor for each of them: it is patient for as long again, and at most for so long
-    /// that such laps are a small part.
+    /// In that lap there was no processor for each of them: it is patient for as long as makes that lap a small part.
     pub fn hindered(self) -> Alone
         ensures { result.ticks ≡ self.ticks }
     {
-        let longer = self
-            .micros
-            .clamp(SOUNDING * LEAST_PATIENCE, SOUNDING * PATIENCE);
         Alone {
-            patience: self.micros.saturating_add(longer),
+            patience: self
+                .micros
+                .saturating_add(SOUNDING.saturating_mul(PATIENCE)),
             ..self
         }
     }

@@ -117,17 +117,10 @@ fn a_lap_beside_other_threads_takes_some_milliseconds(rt: HostRuntime) {
     let alone = steady().lap(3_280, 500, 0);
     assert!(rt; alone.sounding_end(10_000) == 4_240);
     assert!(rt; alone.sounding_end(4_000) == 4_000);
-    // It has gone on for 20,000, and is patient for five times as long as such a lap takes.
+    // It is patient for twenty times as long.
     let hindered = steady().hindered();
-    assert!(rt; !hindered.lap(3_216, 29_999, 0).is_trial_due(1_000_000));
-    assert!(rt; hindered.lap(3_216, 30_000, 0).is_trial_due(1_000_000));
-    // Then for as long again as it has gone on, and in the end for twenty times as long as such a lap takes.
-    let again = hindered.lap(3_216, 30_000, 0).hindered();
-    assert!(rt; !again.lap(3_232, 49_999, 0).is_trial_due(1_000_000));
-    assert!(rt; again.lap(3_232, 50_000, 0).is_trial_due(1_000_000));
-    let late = again.lap(3_232, 150_000, 0).hindered();
-    assert!(rt; !late.lap(3_248, 119_999, 0).is_trial_due(1_000_000));
-    assert!(rt; late.lap(3_248, 120_000, 0).is_trial_due(1_000_000));
+    assert!(rt; !hindered.lap(3_216, 119_999, 0).is_trial_due(1_000_000));
+    assert!(rt; hindered.lap(3_216, 120_000, 0).is_trial_due(1_000_000));
 }
 
 #[test]
