@@ -46,6 +46,9 @@ pub struct Peers {
     neighbours: Vec<u32>,
     /// Of each router, by the remainder of a neighbour's number, the neighbour that is looked for first.
     guesses: Vec<[Guess; GUESSES]>,
+    /// Whether most routers are crowded: then no guess is looked at, which would drive others out of the nearer caches in
+    /// vain.
+    is_crowded: bool,
     /// Of each router its neighbours in ascending order, and nobody behind them.
     orders: Vec<[u16; MOST_LINKS]>,
     ghost cuts: { (r : ℕ) → r + 1 < length starts.items → IsRowWithin starts.items r (length neighbours.items) },
@@ -66,6 +69,7 @@ impl Peers {
             starts,
             neighbours,
             guesses,
+            is_crowded: are_most_crowded(instance),
             orders,
         })
     }
@@ -78,6 +82,9 @@ impl Peers {
         let index = node as usize;
         if index + 1 >= self.starts.len() {
             return None;
+        }
+        if self.is_crowded {
+            return self.slot_aside(index, peer);
         }
         let guess = self.guesses[index][peer as usize % GUESSES];
         if u32::from(guess.peer) == peer {
@@ -242,6 +249,15 @@ fn order_of(hops: &[Hop]) -> [u16; MOST_LINKS]
         order[slot] = hop.peer as u16;
     }
     order
+}
+
+/// Whether most routers of an instance are crowded.
+fn are_most_crowded(instance: &Instance) -> bool {
+    let nodes = instance.nodes();
+    let crowded = (0..nodes)
+        .filter(|node| is_crowded(instance.hops(*node)))
+        .count();
+    crowded > nodes as usize / 2
 }
 
 /// Whether many neighbours have the remainder of another.

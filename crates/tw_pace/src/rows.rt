@@ -89,6 +89,14 @@ fn beside_other_work_there_is_no_trial(rt: HostRuntime) {
 }
 
 #[test]
+fn several_that_could_not_begin_are_tried_much_later(rt: HostRuntime) {
+    // Forty laps took 20,000 microseconds: it is patient until 400,000 have gone by.
+    let again = steady().again();
+    assert!(rt; !again.lap(3_216, 379_999, 0).is_trial_due(1_000_000));
+    assert!(rt; again.lap(3_216, 380_000, 0).is_trial_due(1_000_000));
+}
+
+#[test]
 fn one_thread_that_waits_for_its_processor_goes_on_alone(rt: HostRuntime) {
     // 24,000 microseconds count half, and so does what it waited for: a tenth of 12,000 is 1,200.
     assert!(rt; steady().lap(3_280, 4_000, 2_400).is_trial_due(1_000_000));
