@@ -20,27 +20,33 @@ const BATCHES_ALONE: u32 = 8;
 /// So many turns in which something was handled are judged together: of fewer, chance decides.
 const TURNS_OF_A_SPAN: u64 = 16;
 
-/// Of so many events handled one may be undone: it is handled once more, and so are those that it sent for.
-const HANDLED_FOR_EACH_UNDONE: u64 = 20;
+/// Until the window's first fall one of so many events handled in a span may be undone.
+const HANDLED_FOR_EACH_UNDONE_AT_FIRST: u64 = 20;
+
+/// From then on one of so many in the mean of the latest spans: it is handled once more, and so are those that it sent
+/// for. Where single spans decide, the window stays narrow for the few that undo much.
+const HANDLED_FOR_EACH_UNDONE: u64 = 40;
+
+/// With each further span those before it count for so much less in the mean.
+const PART_THAT_FADES: u64 = 8;
+
+/// By this part the window changes after a span: the mean follows late, so that more would overshoot.
+const PART_THAT_CHANGES: u64 = 32;
+
+/// A window is kept in these parts of a tick, so that one of a few ticks can change by little, too.
+const PARTS_OF_A_TICK: u64 = 64;
 
 /// A turn counts like so many events handled, since a meeting costs more than undoning two events: where ticks have
 /// few events, a wide window that undoes many of them meets less often.
 const HANDLED_FOR_EACH_TURN: u64 = 40;
 
-/// After its first fall the window stays for so many spans before it grows again, and after each further
-/// one for twice as many: where no wider one serves, few spans try one.
-const FIRST_WAIT: u64 = 2;
-
-/// It stays for so many at most, so that it still follows a run that changes.
-const LONGEST_WAIT: u64 = 64;
-
 /// A commit looks at each of the worker's routers: once in so many events that costs next to nothing, and what
 /// undoing these would need stays small enough for the nearest caches.
 const HANDLED_FOR_EACH_COMMIT: u64 = 4_096;
 
-/// How often an idle worker looks at what is told beside the table before it sleeps: for half a millisecond, much longer
-/// than a turn of another worker takes. A worker that sleeps comes back late, by 80 microseconds or more, and those that
-/// wait for it would then sleep as well.
+/// How often an idle worker looks at what is told beside the table before it sleeps: for half a millisecond or more, as long
+/// as the processor pauses between two looks, and much longer than a turn of another worker takes. A worker that sleeps
+/// comes back late, by 80 microseconds or more, and those that wait for it would then sleep as well.
 const MANY_LOOKS: u32 = 262_144;
 
 /// How often it looks where so many looks were in vain: another worker waits for a processor then, and gets one sooner
@@ -95,6 +101,18 @@ impl Work {
             undone: self.undone.saturating_add(more.undone),
         }
     }
+
+    fn faded(self) -> Work {
+        Work {
+            handled: faded(self.handled),
+            undone: faded(self.undone),
+        }
+    }
+}
+
+/// What is left of a number in a mean where one more span counts.
+fn faded(number: u64) -> u64 {
+    number - number / PART_THAT_FADES
 }
 
 /// What was done in some turns.
@@ -128,14 +146,77 @@ impl Span {
         self.turns >= TURNS_OF_A_SPAN
     }
 
-    fn has_much_undone(&self) -> bool {
+    /// The mean with one more span behind those that it is of.
+    fn followed_by(self, span: Span) -> Span {
+        Span {
+            work: self.work.faded().and(span.work),
+            turns: faded(self.turns).saturating_add(span.turns),
+            at_window: faded(self.at_window).saturating_add(span.at_window),
+        }
+    }
+
+    /// Whether more than one of so many events handled was undone.
+    fn has_undone_one_of(&self, handled: u64) -> bool {
         let turns = self.turns.saturating_mul(HANDLED_FOR_EACH_TURN);
         let free = self.work.handled.saturating_add(turns);
-        self.work.undone.saturating_mul(HANDLED_FOR_EACH_UNDONE) > free
+        self.work.undone.saturating_mul(handled) > free
     }
 
     fn ends_at_window(&self) -> bool {
         self.at_window > self.turns / 2
+    }
+}
+
+/// How far ahead of the bound a worker handles events.
+#[derive(Clone, Copy)]
+struct Window {
+    // In parts of a tick.
+    parts: u64,
+    // Within it no event is undone, in ticks.
+    least: u64,
+}
+
+impl Window {
+    /// The window within which no event is undone, of so many ticks.
+    fn new(least: u64) -> Window {
+        Window {
+            parts: least.saturating_mul(PARTS_OF_A_TICK),
+            least,
+        }
+    }
+
+    fn ticks(self) -> u64 {
+        cmp::max(self.least, self.parts / PARTS_OF_A_TICK)
+    }
+
+    fn is_least(self) -> bool {
+        self.ticks() == self.least
+    }
+
+    fn double(&mut self) {
+        self.grow_by(self.parts);
+    }
+
+    fn halve(&mut self) {
+        self.fall_by(self.parts / 2);
+    }
+
+    fn grow(&mut self) {
+        self.grow_by(self.parts / PART_THAT_CHANGES);
+    }
+
+    fn fall(&mut self) {
+        self.fall_by(self.parts / PART_THAT_CHANGES);
+    }
+
+    fn grow_by(&mut self, parts: u64) {
+        let widest = WIDEST_WINDOW * PARTS_OF_A_TICK;
+        self.parts = cmp::min(widest, self.parts.saturating_add(parts));
+    }
+
+    fn fall_by(&mut self, parts: u64) {
+        let least = self.least.saturating_mul(PARTS_OF_A_TICK);
+        self.parts = cmp::max(least, self.parts.saturating_sub(parts));
     }
 }
 
@@ -191,9 +272,7 @@ impl Rests {
 #[derive(Clone, Copy)]
 pub(crate) struct Pace {
     batch: u32,
-    window: u64,
-    // Within it no event is undone.
-    least_window: u64,
+    window: Window,
     // The time of the event handled last.
     tick: u64,
     // How many events were handled: so far, at the latest meeting, and at the latest commit.
@@ -204,10 +283,9 @@ pub(crate) struct Pace {
     undone: u64,
     // Since the window was judged.
     span: Span,
-    // How many spans the window still stays before it may grow.
-    wait: u64,
-    // And how many after its next fall.
-    next_wait: u64,
+    // The mean of the spans since its first fall, and whether there was one.
+    mean: Span,
+    has_fallen: bool,
     rests: Rests,
 }
 
@@ -218,23 +296,22 @@ impl Pace {
     {
         Pace {
             batch,
-            window: least_window,
-            least_window,
+            window: Window::new(least_window),
             tick: 0,
             handled: 0,
             handled_at_meeting: 0,
             handled_at_commit: 0,
             undone: 0,
             span: Span::NONE,
-            wait: 0,
-            next_wait: FIRST_WAIT,
+            mean: Span::NONE,
+            has_fallen: false,
             rests: Rests::NONE,
         }
     }
 
     /// How many events may be handled before the next meeting.
     pub(crate) fn batch(&self) -> u32 {
-        if self.least_window == ALL_TIME {
+        if self.window.least == ALL_TIME {
             self.batch.saturating_mul(BATCHES_ALONE)
         } else {
             self.batch
@@ -245,17 +322,17 @@ impl Pace {
     pub(crate) fn limit(&self, bound: u64, stop: u64) -> u64
         ensures { result ≤ stop }
     {
-        cmp::min(stop, bound.saturating_add(self.window))
+        cmp::min(stop, bound.saturating_add(self.window.ticks()))
     }
 
     /// Whether the window is the one within which no event is undone.
     pub(crate) fn has_least_window(&self) -> bool {
-        self.window == self.least_window
+        self.window.is_least()
     }
 
     /// The greatest bound at which an event of this time, in ticks, is not within the window.
     pub(crate) fn bound_before(&self, time: u64) -> u64 {
-        time.saturating_sub(self.window)
+        time.saturating_sub(self.window.ticks())
     }
 
     /// The time after the tick that is handled.
@@ -326,27 +403,29 @@ impl Pace {
         }
     }
 
-    /// By how much the window grows: until its first fall it becomes twice as wide, so that it is soon as wide as serves.
-    fn growth(&self) -> u64 {
-        let part = if self.next_wait == FIRST_WAIT {
-            self.window
-        } else {
-            self.window / 4
-        };
-        part.saturating_add(1)
+    /// Until its first fall the window becomes twice as wide after each span that ended at it, so that it is soon as wide
+    /// as serves. From then on it follows the mean.
+    fn judge(&mut self) {
+        if self.has_fallen {
+            self.mean = self.mean.followed_by(self.span);
+            self.follow_mean();
+        } else if self
+            .span
+            .has_undone_one_of(HANDLED_FOR_EACH_UNDONE_AT_FIRST)
+        {
+            self.window.halve();
+            self.has_fallen = true;
+        } else if self.span.ends_at_window() {
+            self.window.double();
+        }
     }
 
-    /// The window falls where much was undone in a span, and grows where it kept the worker from handling more.
-    fn judge(&mut self) {
-        if self.span.has_much_undone() {
-            self.window = cmp::max(self.least_window, self.window - self.window / 4);
-            self.wait = self.next_wait;
-            self.next_wait = cmp::min(LONGEST_WAIT, self.next_wait.saturating_mul(2));
-        } else if self.wait > 0 {
-            self.wait -= 1;
-        } else if self.span.ends_at_window() {
-            let wider = self.window.saturating_add(self.growth());
-            self.window = cmp::max(self.least_window, cmp::min(WIDEST_WINDOW, wider));
+    /// The window falls where much was undone in the mean, and grows where it kept the worker from handling more.
+    fn follow_mean(&mut self) {
+        if self.mean.has_undone_one_of(HANDLED_FOR_EACH_UNDONE) {
+            self.window.fall();
+        } else if self.mean.ends_at_window() {
+            self.window.grow();
         }
     }
 }
