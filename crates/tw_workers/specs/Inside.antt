@@ -7,7 +7,7 @@ use Rattle.tw_workers.specs.Work.{IsAtWork, Worker}
 
 -- the worker that the fields stand for
 abbrev pub worker_of : Inside → Worker
-worker_of a = record { share = share a.shard a.hand; stop = a.stop; batch = a.pace.batch }
+worker_of a = record { share = share a.shard a.hand; stop = a.stop; batch = a.batch }
 
 -- it is at work, and keeps no message apart
 pub record IsWorker (a : Inside) : Type 0 where

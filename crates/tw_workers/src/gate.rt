@@ -15,6 +15,12 @@ pub trait Gate {
     /// handled once more.
     fn worked(&self, _worker: u32, _handled: u64, _undone: u64) {}
 
+    /// What a clock shows, in microseconds, where there is one. It may stand still or go back: a worker that has nothing
+    /// to do looks by it how long it has waited, before it sleeps.
+    fn micros(&self) -> Option<u64> {
+        None
+    }
+
     /// The worker has nothing to do, and is about to wait.
     fn waiting(&self, _worker: u32) {}
 

@@ -68,7 +68,7 @@ impl<'a> Worker<'a> {
         ensures full { IsErrOf result (or_memory.Fault counter_full) → IsFull self.new.stop self.new.share.shard }
         ensures stop { self.new.stop ≡ self.old.stop }
     {
-        for _ in 0..self.pace.batch() {
+        for _ in 0..self.pace.until_meeting(self.batch) {
             if self.handle_before(self.limit_now(limit))? {
                 continue;
             }

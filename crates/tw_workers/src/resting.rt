@@ -4,13 +4,13 @@ ghost use Rattle.tw_workers.specs.Seated.{HasTurned, IsSeated};
 ghost use Rattle.tw_workers.specs.Work.{IsAtWork, IsIdle};
 
 use crate::gate::Gate;
-use crate::policy::{NAP_MICROS, NAPS, longest_nap};
 use crate::worker::Worker;
 use std::hint;
 use std::sync::Wait;
 use std::thread::Parker;
 use std::time::Duration;
 use tw_table::{Seat, Table};
+use tw_turns::{LOOKS_OF_A_ROUND, Looks, NAP_MICROS, NAPS, longest_nap};
 
 impl<'a> Worker<'a> {
     /// Where it has no router, and no message to deliver or to send, it tells at the table that nothing is to be waited
@@ -57,15 +57,21 @@ impl<'a> Worker<'a> {
         let worker = self.shard.worker();
         let next = least.min(self.least_mail_time());
         gate.waiting(worker);
-        let naps = self.wait_for_news(rt, table, self.awaited(next));
+        let naps = self.wait_for_news(rt, table, gate, self.awaited(next));
         gate.waited(worker, naps);
         Some(naps)
     }
 
     /// Waits until what is awaited is told, or for a while: it looks again and again at first, and then sleeps in
     /// between. It is answered how often it slept.
-    fn wait_for_news<R: Wait>(&self, rt: &R, table: &Table, awaited: Awaited) -> u32 {
-        if is_told_soon(table, awaited, self.pace.looks()) {
+    fn wait_for_news<G: Gate, R: Wait>(
+        &self,
+        rt: &R,
+        table: &Table,
+        gate: &G,
+        awaited: Awaited,
+    ) -> u32 {
+        if is_told_soon(table, gate, awaited, self.pace.looks()) {
             return 0;
         }
         let longest = longest_nap(self.shard.router_count());
@@ -163,9 +169,26 @@ impl Awaited {
     }
 }
 
-/// Whether what is awaited is told at one of so many looks.
-fn is_told_soon(table: &Table, awaited: Awaited, looks: u32) -> bool {
-    for _ in 0..looks {
+/// Whether what is awaited is told while a worker may look before it sleeps.
+fn is_told_soon<G: Gate>(table: &Table, gate: &G, awaited: Awaited, looks: Looks) -> bool {
+    if is_told_at_once(table, awaited) {
+        return true;
+    }
+    let begun = gate.micros();
+    for _ in 1..looks.rounds {
+        if is_told_at_once(table, awaited) {
+            return true;
+        }
+        if looks.are_over(begun, gate.micros()) {
+            return false;
+        }
+    }
+    false
+}
+
+/// Whether what is awaited is told at one of the looks of a round.
+fn is_told_at_once(table: &Table, awaited: Awaited) -> bool {
+    for _ in 0..LOOKS_OF_A_ROUND {
         if awaited.is_told(table) {
             return true;
         }

@@ -5,12 +5,13 @@ ghost use Rattle.tw_table.specs.Shares.{share};
 ghost use Rattle.tw_workers.specs.Work.{IsAtWork};
 
 use crate::gate::Gate;
-use crate::policy::{Pace, least_window};
+use crate::policy::least_window;
 use std::marker::Model;
 use tw_event::Event;
 use tw_shard::Shard;
 use tw_sim::Signed;
 use tw_table::{Hand, Parcels};
+use tw_turns::Pace;
 
 /// A worker of a parallel run: its routers, and the messages in its hand.
 #[derive(Drop)]
@@ -22,6 +23,7 @@ pub struct Worker<'a> {
     // What is unsent, as it was dealt at the last meeting. It keeps the memory of the lists that go round.
     pub(crate) parcels: Parcels,
     pub(crate) stop: u64,
+    pub(crate) batch: u32,
     pub(crate) pace: Pace,
 }
 
@@ -47,13 +49,14 @@ impl<'a> Worker<'a> {
         ensures batch { result.batch ≡ batch }
     {
         let alloc = *hand.mail.allocator();
-        let pace = Pace::new(batch, least_window(&shard));
+        let pace = Pace::new(least_window(&shard));
         Worker {
             shard,
             hand,
             outgoing: Vec::new(alloc),
             parcels: Parcels::new(alloc),
             stop,
+            batch,
             pace,
         }
     }

@@ -11,6 +11,8 @@ use tw_commands::{Progress, Stages, count_committed};
 use tw_model::Outcome;
 use tw_run::{Gate, Seat, Tally};
 
+const NANOS_OF_A_MICRO: u64 = 1_000;
+
 /// Counts what is done in a run, where `--stats` asks for it, and shows how far it is.
 #[derive(Drop)]
 pub(crate) struct Observer<'r, R> {
@@ -20,8 +22,7 @@ pub(crate) struct Observer<'r, R> {
 }
 
 impl<'r, R: Clock + Eprint> Observer<'r, R> {
-    /// Nothing is done yet. Where nobody asks, nothing will be counted, the clock will not be read, and no memory is
-    /// taken.
+    /// Nothing is done yet. Where nobody asks, nothing will be counted, and no memory is taken.
     pub(crate) fn new(
         alloc: Global,
         rt: &'r R,
@@ -89,6 +90,10 @@ impl<R: Clock + Eprint> Stages for Observer<'_, R> {
 
 impl<R: Clock + Eprint> Gate for Observer<'_, R> {
     fn handling<X: Wait>(&self, _rt: &X, _worker: u32, _turn: u64) {}
+
+    fn micros(&self) -> Option<u64> {
+        Some(nanos(self.rt) / NANOS_OF_A_MICRO)
+    }
 
     fn waiting(&self, worker: u32) {
         if let Some(counts) = self.counts_of(worker) {

@@ -11,7 +11,7 @@ abbrev pub invariant-loop-place : goal.invariant-loop-place
 invariant-loop-place l =
     let s = share l.self-inside.shard l.self-inside.hand in record {
       work : IsAtWork l.self-inside.stop s;
-      kept : StillPreserves l.fn.self (record { share = s; stop = l.self-inside.stop; batch = l.self-inside.pace.batch });
+      kept : StillPreserves l.fn.self (record { share = s; stop = l.self-inside.stop; batch = l.self-inside.batch });
       same : routers s.shard ≡ routers l.fn.self.share.shard;
       done : AreDone (drop l.place (routers s.shard)) s.shard;
       mail : s.mail ≡ l.fn.self.share.mail;

@@ -12,7 +12,7 @@ invariant-loop l =
     × (length l.self-inside.hand.mail.items ≡ l.end)
     × (l.self-inside.hand.out.items ≡ l.fn.self.share.unsent)
     × IsAtWork l.self-inside.stop s
-    × StillPreserves l.fn.self (record { share = s; stop = l.self-inside.stop; batch = l.self-inside.pace.batch })
+    × StillPreserves l.fn.self (record { share = s; stop = l.self-inside.stop; batch = l.self-inside.batch })
     × (l.self-inside.stop ≡ l.fn.self.stop)
     × (l.self-inside.stop ≤ LATEST)
     × (l.self-inside.outgoing.items ≡ [])
