@@ -1,9 +1,10 @@
 -- The fields of an exchange after a move.
-use Rattle.std.proofs.Common.{ℕ, Global, Vec, ◌≡◌, List, [], Some, false, filter, length, map, get_or, refl, ap, set, sym, ◌∙◌, subst, vec_len}
-use Rattle.std.proofs.lemmas.List.{length-set, with_items_is}
+use Rattle.smallvec.proofs.SmallVecLemmas.{items-with_items}
+use Rattle.smallvec.specs.SmallVec.{small_vec_len, with_items}
+use Rattle.std.proofs.Common.{ℕ, Global, Vec, ◌≡◌, List, [], Some, false, filter, length, map, get_or, refl, ap, set, sym, ◌∙◌, subst}
+use Rattle.std.proofs.lemmas.List.{length-set}
 use Rattle.std.specs.List.{AllByRecursion}
 use Rattle.std.specs.Option.{option_map}
-use Rattle.std.specs.Vec.{with_items}
 use Rattle.tw_exchange.specs.AnyBoard.{AnyBoard, IsBoard, all_mail, is_to, is_to_another, who, with_owner, without_mail}
 use Rattle.tw_exchange.specs.Inside.{IsExchange, board_of}
 use Rattle.tw_exchange.specs.Owners.{list_of}
@@ -65,14 +66,14 @@ module _ {E : Type 0} where
   with_mail a mail soonest = record a { mail = with_items a.mail mail; soonest = with_items a.soonest soonest }
 
 module _ {E : Type 0} (parts : Parts E) where
-  pub taken_from : (a : Inside E) (r w : ℕ) (mail : List (Vec (Signed E) Global)) (soonest : List ℕ) → length mail ≡ vec_len a.mail → length soonest ≡ vec_len a.soonest
+  pub taken_from : (a : Inside E) (r w : ℕ) (mail : List (Vec (Signed E) Global)) (soonest : List ℕ) → length mail ≡ small_vec_len a.mail → length soonest ≡ small_vec_len a.soonest
       → items mail ≡ set (items a.mail.items) w (filter (is_to_another parts r) (get_or (items a.mail.items) w [])) → soonest ≡ map (soonest_of parts) (items mail) → IsTaken parts a (with_mail a mail soonest) r w
   taken_from a r w mail soonest long long_too is least =
-      let rows = with_items_is a.mail mail long in
+      let rows = items-with_items a.mail mail long in
       record {
         owners = refl;
         mail = ap items rows ∙ is;
-        soonest = with_items_is a.soonest soonest long_too ∙ (least ∙ ap (λ m. map (soonest_of parts) (items m)) (sym rows));
+        soonest = items-with_items a.soonest soonest long_too ∙ (least ∙ ap (λ m. map (soonest_of parts) (items m)) (sym rows));
         reports = refl;
         bound = refl;
         workers = refl;
@@ -81,18 +82,18 @@ module _ {E : Type 0} (parts : Parts E) where
       }
 
   -- where the rows have the same items
-  pub board_kept : (a : Inside E) (mail : List (Vec (Signed E) Global)) (soonest : List ℕ) → length mail ≡ vec_len a.mail → items mail ≡ items a.mail.items → board_of (with_mail a mail soonest) ≡ board_of a
+  pub board_kept : (a : Inside E) (mail : List (Vec (Signed E) Global)) (soonest : List ℕ) → length mail ≡ small_vec_len a.mail → items mail ≡ items a.mail.items → board_of (with_mail a mail soonest) ≡ board_of a
   board_kept a mail soonest long is =
-      let same : items (with_mail a mail soonest).mail.items ≡ items a.mail.items = ap items (with_items_is a.mail mail long) ∙ is in
+      let same : items (with_mail a mail soonest).mail.items ≡ items a.mail.items = ap items (items-with_items a.mail mail long) ∙ is in
       λ i. record { owners = list_of a.owners; mail = same i; reports = a.reports.items; bound = a.bound; stop = a.stop; halted = a.halted }
 
-  pub exchange_kept : (a : Inside E) (mail : List (Vec (Signed E) Global)) (soonest : List ℕ) → length mail ≡ vec_len a.mail → length soonest ≡ vec_len a.soonest
+  pub exchange_kept : (a : Inside E) (mail : List (Vec (Signed E) Global)) (soonest : List ℕ) → length mail ≡ small_vec_len a.mail → length soonest ≡ small_vec_len a.soonest
       → items mail ≡ items a.mail.items → soonest ≡ map (soonest_of parts) (items mail) → IsExchange parts a → IsExchange parts (with_mail a mail soonest)
   exchange_kept a mail soonest long long_too is least h =
-      let rows = with_items_is a.mail mail long in
+      let rows = items-with_items a.mail mail long in
       let same : items (with_mail a mail soonest).mail.items ≡ items a.mail.items = ap items rows ∙ is in
       record {
         board = subst (IsBoard parts) (sym (λ i. record { owners = list_of a.owners; mail = same i; reports = a.reports.items; bound = a.bound; stop = a.stop; halted = a.halted })) h.board;
-        soonest = with_items_is a.soonest soonest long_too ∙ (least ∙ ap (λ m. map (soonest_of parts) (items m)) (sym rows));
+        soonest = items-with_items a.soonest soonest long_too ∙ (least ∙ ap (λ m. map (soonest_of parts) (items m)) (sym rows));
         reports = h.reports;
       }

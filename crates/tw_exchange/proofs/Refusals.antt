@@ -1,5 +1,5 @@
 -- What follows where a call is refused, and where a visit is not.
-use Rattle.std.proofs.Common.{ℕ, ◌≡◌, ◌<◌, ◌≤◌, Bool, true, false, Result, Ok, Err, inl, inr}
+use Rattle.std.proofs.Common.{ℕ, ◌≡◌, ◌<◌, ◌≤◌, Bool, false, Result, Ok, Err, inl, inr}
 use Rattle.std.proofs.lemmas.Bool.{cases_Bool, cases_lt}
 use Rattle.std.specs.Prelude.{◌↔◌, IsTrue, OnErr}
 use Rattle.tw_exchange.specs.declared.visit.VisitFault.{VisitFault}

@@ -13,7 +13,7 @@ mod moving;
 use crate::mail::NEVER;
 use crate::owners::Owners;
 use crate::parcels::AnyParcels;
-use crate::rows::{no_mail, row};
+use crate::rows::{Row, no_mail, row};
 use crate::times::is_early;
 use crate::visit::{AnyBack, AnyVisit, VisitFault};
 use std::alloc::{AllocError, Global};
@@ -29,10 +29,10 @@ pub struct AnyExchange<E: Timed> {
     workers: u32,
     owners: Owners,
     // By worker, as the rows below: what waits for it, in the order deposited.
-    mail: Vec<Vec<Signed<E>>>,
+    mail: Row<Vec<Signed<E>>>,
     // The least time of its mail, so that a visit need not look through what waits for others.
-    soonest: Vec<u64>,
-    reports: Vec<Option<u64>>,
+    soonest: Row<u64>,
+    reports: Row<Option<u64>>,
     bound: u64,
     stop: u64,
     halted: bool,

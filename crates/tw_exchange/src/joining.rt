@@ -30,7 +30,7 @@ fn make_room_for<T: Copy>(mail: &mut Vec<T>, count: usize) -> Result<(), AllocEr
     ensures room { OnOk result (0 < vec_len mail.new → vec_len mail.new + count ≤ vec_capacity mail.new) }
     ensures wanted { OnErr result (0 < count) }
 {
-    if mail.is_empty() {
+    if count == 0 || mail.is_empty() {
         return Ok(());
     }
     mail.reserve(count)

@@ -10,7 +10,7 @@ ghost use Rattle.tw_model.specs.declared.memory.OrMemory.TheVariants as or_memor
 use crate::joining::{clear_all, join_all, make_room_behind};
 use crate::mail::{NEVER, deposit};
 use crate::owners::Owners;
-use crate::rows::{no_mail, row};
+use crate::rows::{Row, no_mail, row};
 use crate::times::is_any_early;
 use crate::visit::VisitFault;
 use std::alloc::{AllocError, Global};
@@ -24,9 +24,9 @@ use tw_sim::Signed;
 pub struct AnyParcels<E: Timed> {
     alloc: Global,
     // By worker, as the rows below. Where nothing was dealt yet there are none.
-    lists: Vec<Vec<Signed<E>>>,
+    lists: Row<Vec<Signed<E>>>,
     // The least time of each list, so that a visit need not look through it.
-    soonest: Vec<u64>,
+    soonest: Row<u64>,
 }
 
 impl<E: Timed> Model for AnyParcels<E> {
@@ -48,8 +48,8 @@ impl<E: Timed> AnyParcels<E> {
     {
         AnyParcels {
             alloc,
-            lists: Vec::new(alloc),
-            soonest: Vec::new(alloc),
+            lists: Row::new(alloc),
+            soonest: Row::new(alloc),
         }
     }
 

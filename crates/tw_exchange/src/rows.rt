@@ -3,13 +3,21 @@
 ghost use Rattle.std.specs.Prelude.{◌≡◌, [], IfOk, replicate};
 ghost use Rattle.tw_exchange.specs.Rows.{items};
 
+use smallvec::SmallVec;
 use std::alloc::{AllocError, Global};
 
+/// A row of so many places needs no memory of its own: a worker that visits the exchange finds it beside the bound. Of
+/// itself `twarp run` takes as many workers at most.
+const PLACES_AT_HAND: usize = 4;
+
+/// A row.
+pub type Row<T> = SmallVec<T, PLACES_AT_HAND>;
+
 /// No mail for any of so many workers. What mail is of is of no concern here.
-pub fn no_mail<T: Copy>(alloc: Global, workers: u32) -> Result<Vec<Vec<T>>, AllocError>
+pub fn no_mail<T: Copy>(alloc: Global, workers: u32) -> Result<Row<Vec<T>>, AllocError>
     ensures { IfOk result (λ mail. items mail.items ≡ replicate workers []) }
 {
-    let mut mail = Vec::new(alloc);
+    let mut mail = Row::new(alloc);
     for _ in 0..workers {
         mail.push(Vec::new(alloc))?;
     }
@@ -17,10 +25,12 @@ pub fn no_mail<T: Copy>(alloc: Global, workers: u32) -> Result<Vec<Vec<T>>, Allo
 }
 
 /// A row with the same item for each of so many workers.
-pub fn row<T: Copy>(alloc: Global, workers: u32, item: T) -> Result<Vec<T>, AllocError>
+pub fn row<T: Copy + Default>(alloc: Global, workers: u32, item: T) -> Result<Row<T>, AllocError>
     ensures { IfOk result (λ row. row.items ≡ replicate workers item) }
 {
-    let mut row = Vec::new(alloc);
-    row.resize(workers as usize, item)?;
+    let mut row = Row::new(alloc);
+    for _ in 0..workers {
+        row.push(item)?;
+    }
     Ok(row)
 }

@@ -31,8 +31,8 @@ impl Hints {
 
     /// Tells of an exchange.
     pub(crate) fn tell(&self, exchange: &Exchange) {
-        self.told.bound.store(exchange.bound(), Ordering::Release);
-        self.told.mail.store(mail_bits(exchange), Ordering::Release);
+        tell_news(&self.told.bound, exchange.bound());
+        tell_news(&self.told.mail, mail_bits(exchange));
     }
 
     /// Whether a bound beyond this one was told; or mail for a worker, and a bound of `mail_bound` at least.
@@ -40,6 +40,13 @@ impl Hints {
         let told = self.told.bound.load(Ordering::Acquire);
         told > bound
             || (told >= mail_bound && self.told.mail.load(Ordering::Acquire) & bit_of(worker) != 0)
+    }
+}
+
+/// Writes a number where another one stands: a write takes the line of memory away from all that look at it.
+fn tell_news(told: &AtomicU64, number: u64) {
+    if told.load(Ordering::Acquire) != number {
+        told.store(number, Ordering::Release);
     }
 }
 

@@ -1,5 +1,6 @@
 //! A worker meets the table.
-ghost use Rattle.std.specs.Prelude.{ℕ, ◌≡◌, ◌≤◌, ◌<◌, [], None, OnErr, Some, length, true};
+ghost use Rattle.std.specs.Prelude.{ℕ, ◌≡◌, ◌++◌, ◌≤◌, ◌<◌, [], None, OnErr, Some, length, map, min, true};
+ghost use Rattle.std.specs.List.{reduce};
 ghost use Rattle.tw_exchange.specs.Board.{report_of};
 ghost use Rattle.tw_model.specs.declared.memory.OrMemory.TheVariants as or_memory;
 ghost use Rattle.tw_shard.specs.Shard.{IsSameShare, shard_core};
@@ -39,8 +40,9 @@ impl<'a> Worker<'a> {
         ensures was_halted { was_halted_at result.0 ≡ halted_at seat }
         ensures answer { IsAnswered (length self.old.share.unsent) (bound_at result.0) self.new.stop (halted_at result.0) result.1 }
     {
-        // What is dealt before takes no time at the table.
+        // What is done before takes no time at the table.
         let dealt = table.deal(&mut self.parcels, &self.hand.out);
+        let report = self.shard.report_time();
         let mut held = table.take(rt, seat);
         let leaving = visit(
             &mut held,
@@ -48,6 +50,7 @@ impl<'a> Worker<'a> {
             &mut self.hand,
             &mut self.parcels,
             dealt,
+            report,
             self.stop,
         );
         let seat = table.give(rt, held, &self.shard, &self.hand);
@@ -71,18 +74,20 @@ impl<'a> Worker<'a> {
 }
 
 /// A worker with this shard and hand visits the exchange that it has just taken, where what is unsent is dealt to the
-/// workers that it is for.
+/// workers that it is for, and reports the least time of what waits for its routers or is held.
 fn visit(
     held: &mut Held,
     shard: &mut Shard<'_>,
     hand: &mut Hand,
     parcels: &mut Parcels,
     dealt: Result<(), OrMemory<VisitFault>>,
+    report: Option<u64>,
     stop: u64,
 ) -> Option<Leaving>
     requires taken { HasJustTaken stop held.old }
     requires ready { MayMeet stop (share_of held.old) (share shard.old hand.old) }
     requires dealt { IsDealtTo (exchange_of held.old) hand.old.out.items parcels.old dealt }
+    requires report { report ≡ reduce min (map (λ e. e.time) (shard.old.pending ++ shard.old.kept ++ shard.old.held)) }
     ensures seat { IsSameSeat held.old held.new }
     ensures given { MayBeGiven (taken_by held.old) (share_of held.old) (exchange_of held.new) (share shard.new hand.new) }
     ensures work { IsAtWork stop (share shard.new hand.new) }
@@ -101,7 +106,7 @@ fn visit(
     // The messages in it are delivered, and its memory goes round.
     hand.mail.clear();
     hand.next = 0;
-    match held.visit_dealt(parcels, shard.report_time(), &mut hand.mail) {
+    match held.visit_dealt(parcels, report, &mut hand.mail) {
         Ok(news) => {
             shard.raise_bound(news.bound);
             hand.out.clear();

@@ -20,7 +20,7 @@ is_visited c =
     let w = (share_of c.args.held.now).shard.terms.worker in
     let out = c.args.hand.now.out.items in
     let told = c.in-Ok.ensures in
-    let report = c.report_time.ensures in
+    let report = c.requires.report in
     let fresh = c.requires.taken.fresh in
     let dealt = taken_up c.args.dealt (AreDealt z.owners (workers z) out c.args.parcels.now) (λ why is. c.in_default.not-Err why is) c.requires.dealt.dealt in
     record {
@@ -86,8 +86,8 @@ refuse-requires-in-Err-visit_dealt c =
     let out = c.args.hand.now.out.items in
     let told = c.in-Err-visit_dealt.ensures in
     let dealt = taken_up c.args.dealt (AreDealt z.owners (workers z) out c.args.parcels.now) (λ why is. c.in_default.not-Err why is) c.requires.dealt.dealt in
-    let soon : is_early out c.report_time.result z ≡ false =
-    (λ i. is_early out (c.report_time.ensures i) (c.requires.taken.fresh i)) ∙ not_early x c.args.stop s q c.requires.taken.met c.requires.taken.stop c.requires.ready.preserved c.requires.ready.delivered in
+    let soon : is_early out c.args.report z ≡ false =
+    (λ i. is_early out (c.requires.report i) (c.requires.taken.fresh i)) ∙ not_early x c.args.stop s q c.requires.taken.met c.requires.taken.stop c.requires.ready.preserved c.requires.ready.delivered in
     record { memory = for_memory c.in-Err-visit_dealt.why (λ why. told.there (ap Err why)) (λ why. cc (soon, (told.early out dealt).0 (ap Err why))) (λ why. told.no_router (ap Err why)) }
 
 pub returns-in-Err-visit_dealt-clause-given : goal.returns-in-Err-visit_dealt-clause-given
@@ -111,8 +111,8 @@ wanted_memory c =
     let out = c.args.hand.now.out.items in
     let told = c.in-Err-visit_dealt.ensures in
     let dealt = taken_up c.args.dealt (AreDealt z.owners (workers z) out c.args.parcels.now) (λ why is. c.in_default.not-Err why is) c.requires.dealt.dealt in
-    let soon : is_early out c.report_time.result z ≡ false =
-    (λ i. is_early out (c.report_time.ensures i) (c.requires.taken.fresh i)) ∙ not_early x c.args.stop s q c.requires.taken.met c.requires.taken.stop c.requires.ready.preserved c.requires.ready.delivered in
+    let soon : is_early out c.args.report z ≡ false =
+    (λ i. is_early out (c.requires.report i) (c.requires.taken.fresh i)) ∙ not_early x c.args.stop s q c.requires.taken.met c.requires.taken.stop c.requires.ready.preserved c.requires.ready.delivered in
     told.memory out dealt
     (ap Err (for_memory c.in-Err-visit_dealt.why (λ why. told.there (ap Err why)) (λ why. cc (soon, (told.early out dealt).0 (ap Err why))) (λ why. told.no_router (ap Err why))))
 

@@ -1,4 +1,4 @@
-use Rattle.std.proofs.Common.{◌≡◌, ◌∙◌, Err, arith, ap, false, sym}
+use Rattle.std.proofs.Common.{◌≡◌, ◌∙◌, Err, arith, ap, sym}
 use Rattle.std.proofs.lemmas.Grind.{common_steps}
 use Rattle.tw_exchange.specs.AnyBoard.{is_early, workers}
 use Rattle.tw_exchange.proofs.Refusals.{may_go}

@@ -1,8 +1,9 @@
+use Rattle.smallvec.proofs.SmallVecLemmas.{items-with_items}
+use Rattle.smallvec.specs.SmallVec.{with_items}
 use Rattle.std.proofs.Common.{arith, false, ◌≡◌, ◌<◌, List, [], length, map, min, refl, set, get_or, ap, sym, ◌∙◌, subst}
-use Rattle.std.proofs.lemmas.List.{with_items_is}
+use Rattle.std.proofs.lemmas.List.{length-set}
 use Rattle.std.specs.List.{flat_map, fold}
 use Rattle.std.specs.Option.{option_to_list}
-use Rattle.std.specs.Vec.{with_item, with_items}
 use Rattle.tw_exchange.specs.AnyBoard.{AreDealt, AnyBoard, followed, handed, is_early, least_report, visited, worker_for, workers}
 use Rattle.tw_exchange.specs.Inside.{board_of}
 use Rattle.tw_exchange.specs.Owners.{list_of}
@@ -28,7 +29,7 @@ after g c =
       owners = a.owners;
       mail = with_items (with_items a.mail c.join_to.new.mail) c.hand_over-least.new.mail;
       soonest = with_items (with_items a.soonest c.join_to.new.soonest) c.hand_over-least.new.soonest;
-      reports = with_item a.reports c.args.worker c.report_with.result;
+      reports = with_items a.reports (set c.deref_mut-5.result.now c.args.worker c.report_with.result);
       bound = c.least_of-self-inside.result;
       stop = a.stop;
       halted = a.halted;
@@ -44,13 +45,21 @@ here g c out is =
 
 -- the row that the deposit leaves, and then what is handed out leaves
 mail_between : (g : Over) (c : After-self-6-1 g) → (with_items c.self.inside.mail c.join_to.new.mail).items ≡ c.join_to.new.mail
-mail_between g c = with_items_is c.self.inside.mail c.join_to.new.mail (c.join_to.auto.mail ∙ c.deref_mut.ensures.len)
+mail_between g c = items-with_items c.self.inside.mail c.join_to.new.mail (c.join_to.auto.mail ∙ ap length c.deref_mut.ensures.value)
 
 mail_after : (g : Over) (c : After-self-6-1 g) → (after g c).mail.items ≡ c.hand_over-least.new.mail
-mail_after g c = with_items_is (with_items c.self.inside.mail c.join_to.new.mail) c.hand_over-least.new.mail (c.hand_over-least.auto.mail ∙ c.deref_mut-3.ensures.len)
+mail_after g c = items-with_items (with_items c.self.inside.mail c.join_to.new.mail) c.hand_over-least.new.mail (c.hand_over-least.auto.mail ∙ ap length c.deref_mut-3.ensures.value)
 
 soonest_after : (g : Over) (c : After-self-6-1 g) → (after g c).soonest.items ≡ c.hand_over-least.new.soonest
-soonest_after g c = with_items_is (with_items c.self.inside.soonest c.join_to.new.soonest) c.hand_over-least.new.soonest (c.hand_over-least.auto.soonest ∙ c.deref_mut-4.ensures.len)
+soonest_after g c = items-with_items (with_items c.self.inside.soonest c.join_to.new.soonest) c.hand_over-least.new.soonest (c.hand_over-least.auto.soonest ∙ ap length c.deref_mut-4.ensures.value)
+
+reports_after : (g : Over) (c : After-self-6-1 g) → (after g c).reports.items ≡ set c.self.inside.reports.items c.args.worker c.report_with.result
+reports_after g c =
+    let a = c.self.inside in
+    let rows = c.deref_mut-5.result.now in
+    let w = c.args.worker in
+    let told = c.report_with.result in
+    items-with_items a.reports (set rows w told) (length-set rows w told ∙ ap length c.deref_mut-5.ensures.value) ∙ ap (λ l. set l w told) c.deref_mut-5.ensures.value
 
 -- all mail after the deposit
 all_mail : (g : Over) (c : After-self-6-1 g) (out : List (Signed g.row.E.Denot)) → AreDealt g.E.Timed.parts (list_of c.self.inside.owners) (length c.self.inside.mail.items) out c.args.parcels.now
@@ -78,8 +87,8 @@ passed_on g c out is =
       owners = refl;
       mail = ap items (mail_after g c) ∙ (c.hand_over-least.ensures.rest ∙ ap (λ mail. set mail w []) (all_mail g c out is));
       soonest = soonest_after g c ∙ (c.hand_over-least.ensures.soonest ∙ ap (λ mail. map (soonest_of g.E.Timed.parts) (items mail)) (sym (mail_after g c)));
-      reports = ap (λ r. set a.reports.items w r) (c.report_with.ensures ∙ ap (least_report g.E.Timed.parts c.args.report) (c.deref.ensures.value ∙ handed_is g c out is));
-      bound = c.least_of-self-inside.ensures ∙ λ i. fold min (fold min a.stop (c.deref-3.ensures.value i)) (flat_map option_to_list (c.deref-2.ensures.value i));
+      reports = reports_after g c ∙ ap (λ r. set a.reports.items w r) (c.report_with.ensures ∙ ap (least_report g.E.Timed.parts c.args.report) (c.deref.ensures.value ∙ handed_is g c out is));
+      bound = c.least_of-self-inside.ensures ∙ λ i. fold min (fold min a.stop (c.deref-3.ensures i)) (flat_map option_to_list (c.deref-2.ensures i));
       workers = refl;
       stop = refl;
       halted = refl;
@@ -88,20 +97,20 @@ passed_on g c out is =
 -- where memory is refused, the rows have the same items
 pub invariant_of-self : goal.invariant_of-self
 invariant_of-self g c =
-    exchange_kept g.E.Timed.parts c.self.inside c.join_to.new.mail c.join_to.new.soonest (c.join_to.auto.mail ∙ c.deref_mut.ensures.len) (c.join_to.auto.soonest ∙ c.deref_mut-2.ensures.len)
+    exchange_kept g.E.Timed.parts c.self.inside c.join_to.new.mail c.join_to.new.soonest (c.join_to.auto.mail ∙ ap length c.deref_mut.ensures.value) (c.join_to.auto.soonest ∙ ap length c.deref_mut-2.ensures.value)
     (c.in_err-join_to.ensures.err ∙ ap items c.deref_mut.ensures.value) c.join_to.ensures.soonest c.self.invariant
 
 pub returns-in_err-join_to-clause-err : goal.returns-in_err-join_to-clause-err
 returns-in_err-join_to-clause-err g c =
-    on_err _ c.from_residual.result (board_kept g.E.Timed.parts c.self.inside c.join_to.new.mail c.join_to.new.soonest (c.join_to.auto.mail ∙ c.deref_mut.ensures.len)
+    on_err _ c.from_residual.result (board_kept g.E.Timed.parts c.self.inside c.join_to.new.mail c.join_to.new.soonest (c.join_to.auto.mail ∙ ap length c.deref_mut.ensures.value)
     (c.in_err-join_to.ensures.err ∙ ap items c.deref_mut.ensures.value) ∙ c.self.view_is)
 
 pub hand_over-least-requires-clause-soonest : goal.hand_over-least-requires-clause-soonest
 hand_over-least-requires-clause-soonest g c =
     let a = c.self.inside in
-    let rows = c.deref_mut-3.ensures.value ∙ with_items_is a.mail c.join_to.new.mail (c.join_to.auto.mail ∙ c.deref_mut.ensures.len) in
+    let rows = c.deref_mut-3.ensures.value ∙ items-with_items a.mail c.join_to.new.mail (c.join_to.auto.mail ∙ ap length c.deref_mut.ensures.value) in
     c.deref_mut-4.ensures.value
-    ∙ (with_items_is a.soonest c.join_to.new.soonest (c.join_to.auto.soonest ∙ c.deref_mut-2.ensures.len)
+    ∙ (items-with_items a.soonest c.join_to.new.soonest (c.join_to.auto.soonest ∙ ap length c.deref_mut-2.ensures.value)
     ∙ (c.join_to.ensures.soonest ∙ ap (λ m. map (soonest_of g.E.Timed.parts) (items m)) (sym rows)))
 
 pub report_with-requires : goal.report_with-requires

@@ -1,4 +1,4 @@
-use Rattle.std.proofs.Common.{◌++◌, ◌∙◌, [], ap, filter, get_or, set}
+use Rattle.std.proofs.Common.{◌++◌, ◌∙◌, [], ap, filter, get_or, length, set}
 use Rattle.tw_exchange.specs.AnyBoard.{all_mail, is_to, is_to_another, who, without_mail}
 use Rattle.tw_exchange.specs.Inside.{board_of}
 use Rattle.tw_exchange.specs.Rows.{items}
@@ -10,12 +10,12 @@ use Rattle.tw_exchange.proofs.exchange.AnyExchange.take_out_of.Goals as goal
 pub invariant_of-self : goal.invariant_of-self
 invariant_of-self g c =
     let a = c.self.inside in
-    exchange_kept g.E.Timed.parts a c.take_out.new.mail c.take_out.new.soonest_times (c.take_out.auto.mail ∙ c.deref_mut.ensures.len) (c.take_out.auto.soonest_times ∙ c.deref_mut-2.ensures.len)
+    exchange_kept g.E.Timed.parts a c.take_out.new.mail c.take_out.new.soonest_times (c.take_out.auto.mail ∙ ap length c.deref_mut.ensures.value) (c.take_out.auto.soonest_times ∙ ap length c.deref_mut-2.ensures.value)
     (c.in_err-take_out.ensures.err ∙ ap items c.deref_mut.ensures.value) c.take_out.ensures.soonest c.self.invariant
 
 pub returns-in_err-take_out-clause-err : goal.returns-in_err-take_out-clause-err
 returns-in_err-take_out-clause-err g c =
-    on_err _ c.from_residual.result (board_kept g.E.Timed.parts c.self.inside c.take_out.new.mail c.take_out.new.soonest_times (c.take_out.auto.mail ∙ c.deref_mut.ensures.len)
+    on_err _ c.from_residual.result (board_kept g.E.Timed.parts c.self.inside c.take_out.new.mail c.take_out.new.soonest_times (c.take_out.auto.mail ∙ ap length c.deref_mut.ensures.value)
     (c.in_err-take_out.ensures.err ∙ ap items c.deref_mut.ensures.value) ∙ c.self.view_is)
 
 pub invariant_of-self-2 : goal.invariant_of-self-2
@@ -24,7 +24,7 @@ invariant_of-self-2 g c =
     let r = c.args.router in
     let w = c.args.worker in
     exchange_taken g.E.Timed.parts a (with_mail a c.take_out.new.mail c.take_out.new.soonest_times) r w c.self.invariant (ap (λ x. who x r) c.self.view_is ∙ c.requires.whose)
-    (taken_from g.E.Timed.parts a r w c.take_out.new.mail c.take_out.new.soonest_times (c.take_out.auto.mail ∙ c.deref_mut.ensures.len) (c.take_out.auto.soonest_times ∙ c.deref_mut-2.ensures.len)
+    (taken_from g.E.Timed.parts a r w c.take_out.new.mail c.take_out.new.soonest_times (c.take_out.auto.mail ∙ ap length c.deref_mut.ensures.value) (c.take_out.auto.soonest_times ∙ ap length c.deref_mut-2.ensures.value)
     (c.in_ok-take_out.ensures.ok ∙ ap (λ rows. set (items rows) w (filter (is_to_another g.E.Timed.parts r) (get_or (items rows) w []))) c.deref_mut.ensures.value) c.take_out.ensures.soonest)
 
 pub returns-clause-mail : goal.returns-clause-mail
@@ -33,7 +33,7 @@ returns-clause-mail g c =
     let r = c.args.router in
     let w = c.args.worker in
     board_taken g.E.Timed.parts a (with_mail a c.take_out.new.mail c.take_out.new.soonest_times) r w c.self.invariant (ap (λ x. who x r) c.self.view_is ∙ c.requires.whose)
-    (taken_from g.E.Timed.parts a r w c.take_out.new.mail c.take_out.new.soonest_times (c.take_out.auto.mail ∙ c.deref_mut.ensures.len) (c.take_out.auto.soonest_times ∙ c.deref_mut-2.ensures.len)
+    (taken_from g.E.Timed.parts a r w c.take_out.new.mail c.take_out.new.soonest_times (c.take_out.auto.mail ∙ ap length c.deref_mut.ensures.value) (c.take_out.auto.soonest_times ∙ ap length c.deref_mut-2.ensures.value)
     (c.in_ok-take_out.ensures.ok ∙ ap (λ rows. set (items rows) w (filter (is_to_another g.E.Timed.parts r) (get_or (items rows) w []))) c.deref_mut.ensures.value) c.take_out.ensures.soonest)
     ∙ ap (without_mail g.E.Timed.parts r) c.self.view_is
 
@@ -52,7 +52,7 @@ returns-clause-whole g c =
     let r = c.args.router in
     let w = c.args.worker in
     (exchange_taken g.E.Timed.parts a (with_mail a c.take_out.new.mail c.take_out.new.soonest_times) r w c.self.invariant (ap (λ x. who x r) c.self.view_is ∙ c.requires.whose)
-    (taken_from g.E.Timed.parts a r w c.take_out.new.mail c.take_out.new.soonest_times (c.take_out.auto.mail ∙ c.deref_mut.ensures.len) (c.take_out.auto.soonest_times ∙ c.deref_mut-2.ensures.len)
+    (taken_from g.E.Timed.parts a r w c.take_out.new.mail c.take_out.new.soonest_times (c.take_out.auto.mail ∙ ap length c.deref_mut.ensures.value) (c.take_out.auto.soonest_times ∙ ap length c.deref_mut-2.ensures.value)
     (c.in_ok-take_out.ensures.ok ∙ ap (λ rows. set (items rows) w (filter (is_to_another g.E.Timed.parts r) (get_or (items rows) w []))) c.deref_mut.ensures.value) c.take_out.ensures.soonest)).board
 
 pub returns-clause-none : goal.returns-clause-none
@@ -61,5 +61,5 @@ returns-clause-none g c =
     let r = c.args.router in
     let w = c.args.worker in
     none_after g.E.Timed.parts r (board_of a) _ (board_taken g.E.Timed.parts a (with_mail a c.take_out.new.mail c.take_out.new.soonest_times) r w c.self.invariant (ap (λ x. who x r) c.self.view_is ∙ c.requires.whose)
-    (taken_from g.E.Timed.parts a r w c.take_out.new.mail c.take_out.new.soonest_times (c.take_out.auto.mail ∙ c.deref_mut.ensures.len) (c.take_out.auto.soonest_times ∙ c.deref_mut-2.ensures.len)
+    (taken_from g.E.Timed.parts a r w c.take_out.new.mail c.take_out.new.soonest_times (c.take_out.auto.mail ∙ ap length c.deref_mut.ensures.value) (c.take_out.auto.soonest_times ∙ ap length c.deref_mut-2.ensures.value)
     (c.in_ok-take_out.ensures.ok ∙ ap (λ rows. set (items rows) w (filter (is_to_another g.E.Timed.parts r) (get_or (items rows) w []))) c.deref_mut.ensures.value) c.take_out.ensures.soonest))

@@ -11,5 +11,5 @@ returns g c =
     let report = c.args.report in
     let bound = c.args.bound in
     c.is_any_early.ensures
-    ∙ (ap (λ row. option_map_or (λ time. nat_lt time bound) report false || list_any (λ time. nat_lt time bound) row) c.deref.ensures.value
+    ∙ (ap (λ row. option_map_or (λ time. nat_lt time bound) report false || list_any (λ time. nat_lt time bound) row) c.deref.ensures
     ∙ (early_found g.E.Timed.parts report bound a.soonest.items (items a.lists.items) c.self.invariant.soonest (omega arith) ∙ ap (any_early g.E.Timed.parts report bound) c.self.view_is))

@@ -1,7 +1,7 @@
+use Rattle.smallvec.proofs.SmallVecLemmas.{items-with_items}
+use Rattle.smallvec.specs.SmallVec.{with_items}
 use Rattle.std.proofs.Common.{◌≡◌, ◌<◌, ◌∙◌, [], ap, false, length, map, replicate, subst, sym}
-use Rattle.std.proofs.lemmas.List.{with_items_is}
 use Rattle.std.proofs.lemmas.Result.{on_ok_weaker}
-use Rattle.std.specs.Vec.{with_items}
 use Rattle.tw_exchange.specs.AnyBoard.{any_homeless, followed, worker_for}
 use Rattle.tw_exchange.specs.Owners.{list_of}
 use Rattle.tw_exchange.specs.Rows.{items, soonest_of}
@@ -26,9 +26,9 @@ deposit-requires-clause-soonest g c =
 pub invariant_of-self : goal.invariant_of-self
 invariant_of-self g c =
     let a = c.self.inside in
-    let put = with_items_is a.lists c.deposit.new.mail (c.deposit.auto.mail ∙ c.deref_mut.ensures.len) in
+    let put = items-with_items a.lists c.deposit.new.mail (c.deposit.auto.mail ∙ ap length c.deref_mut.ensures.value) in
     record {
-      soonest = with_items_is a.soonest c.deposit.new.soonest (c.deposit.auto.soonest ∙ c.deref_mut-2.ensures.len)
+      soonest = items-with_items a.soonest c.deposit.new.soonest (c.deposit.auto.soonest ∙ ap length c.deref_mut-2.ensures.value)
           ∙ (c.deposit.ensures.soonest ∙ ap (λ rows. map (soonest_of g.E.Timed.parts) (items rows)) (sym put));
     }
 
@@ -40,6 +40,6 @@ returns-clause-dealt g c =
     let rows = c.deref_mut.ensures.value in
     let many : length c.deref_mut.result.now ≡ length c.args.self.now = ap length rows ∙ (sym (length_items a.lists.items) ∙ ap length c.self.view_is) in
     let none : items c.deref_mut.result.now ≡ replicate (length c.args.self.now) [] = ap items rows ∙ (c.self.view_is ∙ c.requires.none) in
-    let put = with_items_is a.lists c.deposit.new.mail (c.deposit.auto.mail ∙ c.deref_mut.ensures.len) in
+    let put = items-with_items a.lists c.deposit.new.mail (c.deposit.auto.mail ∙ ap length c.deref_mut.ensures.value) in
     on_ok_weaker c.deposit.result (λ ok. dealt_new g.E.Timed.parts owners (length c.args.self.now) out (items (with_items a.lists c.deposit.new.mail).items) c.requires.home
     (ap items put ∙ (ok ∙ λ i. followed g.E.Timed.parts (worker_for owners (many i)) 0 out (none i)))) c.deposit.ensures.ok

@@ -9,7 +9,7 @@ pub returns-then-len-workers-clause-rows : goal.returns-then-len-workers-clause-
 returns-then-len-workers-clause-rows g c =
     let a = c.self.inside in
     let long : length c.args.self.now ≡ c.args.workers
-    = ap length (sym c.self.view_is) ∙ (length_items a.lists.items ∙ (sym a.lists.ok.0 ∙ (sym c.len.ensures ∙ c.if-len-workers.true))) in
+    = ap length (sym c.self.view_is) ∙ (length_items a.lists.items ∙ (sym c.len.ensures.value ∙ c.if-len-workers.true)) in
     all_empty c.args.self.now c.requires ∙ ap (λ n. replicate n []) long
 
 pub invariant_of-self : goal.invariant_of-self

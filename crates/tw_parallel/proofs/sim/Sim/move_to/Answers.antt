@@ -1,4 +1,4 @@
-use Rattle.std.proofs.Common.{◌≡◌, ℕ, ◌<◌, ap, sym, ◌∙◌, subst, inl, inr}
+use Rattle.std.proofs.Common.{◌≡◌, ℕ, ◌<◌, arith, ap, sym, ◌∙◌, subst, inl, inr}
 use Rattle.tw_exchange.specs.Board.{Board, IsListed, listed, who}
 use Rattle.tw_exchange.proofs.Moving.{same_listed}
 use Rattle.tw_parallel.proofs.Moved.{all_listed, all_owned, listed_sim, mail_known}
@@ -6,13 +6,12 @@ use Rattle.tw_parallel.specs.Inside.{sim_of}
 use Rattle.tw_parallel.specs.Sim.{IsSim, Sim}
 use Rattle.tw_parallel.proofs.sim.Sim.move_to.Goals as goal
 
-pub list_owners-requires-clause-owned : goal.list_owners-requires-clause-owned
-list_owners-requires-clause-owned c =
-    all_owned (sim_of c.self.inside) c.self.invariant.sim c.nodes.result (c.nodes.ensures.value ∙ ap (λ net. net.nodes) c.instance.ensures.value)
-
-pub list_owners-requires-clause-mail : goal.list_owners-requires-clause-mail
-list_owners-requires-clause-mail c =
-    mail_known (sim_of c.self.inside) c.self.invariant.sim c.nodes.result (c.nodes.ensures.value ∙ ap (λ net. net.nodes) c.instance.ensures.value)
+pub list_owners-requires : goal.list_owners-requires
+list_owners-requires c =
+    let a = sim_of c.self.inside in
+    let many = c.nodes.ensures.value ∙ ap (λ net. net.nodes) c.instance.ensures.value in
+    -- an exchange fits into memory
+    (omega arith, (all_owned a c.self.invariant.sim c.nodes.result many, mail_known a c.self.invariant.sim c.nodes.result many))
 
 pub invariant_of-self-2 : goal.invariant_of-self-2
 invariant_of-self-2 c = record {
