@@ -42,12 +42,13 @@ pub(crate) const HANDLED_FOR_EACH_COMMIT: u64 = 4_096;
 /// An idle worker looks so often at what is told beside the table, and then at the clock.
 pub const LOOKS_OF_A_ROUND: u32 = 64;
 
-/// How long an idle worker looks before it sleeps: much longer than a turn of another worker takes. A worker that sleeps
-/// comes back late, by 80 microseconds or more, and those that wait for it would then sleep as well. Where there is no
-/// clock the rounds end it: one takes 0.1 to 4 microseconds, as long as the processor pauses between two looks.
+/// How long an idle worker looks before it sleeps: longer than another worker's part of a tick takes that has thousands
+/// of events, which is 200 microseconds and more. A worker that sleeps comes back late, by 80 microseconds or more, and
+/// those that wait for it would then sleep as well. Where there is no clock the rounds end it: one takes 0.1 to 4
+/// microseconds, as long as the processor pauses between two looks.
 pub(crate) const MANY_LOOKS: Looks = Looks {
     rounds: 1_024,
-    micros: 200,
+    micros: 500,
 };
 
 /// How long it looks where that was in vain: another worker waits for a processor then, and gets one sooner from those
@@ -57,8 +58,9 @@ pub(crate) const FEW_LOOKS: Looks = Looks {
     micros: 12,
 };
 
-/// After many looks in vain a worker looks shortly for so many rests, and after each further time for twice as many.
-pub(crate) const FIRST_SHORT_RESTS: u32 = 8;
+/// After many looks in vain a worker looks shortly for so many rests, and after each further time for twice as many: it
+/// happens once in a while on a machine whose processors are free, too.
+pub(crate) const FIRST_SHORT_RESTS: u32 = 1;
 
 /// For so many at most, so that it still follows a machine on which processors become free.
 pub(crate) const MOST_SHORT_RESTS: u32 = 1_024;

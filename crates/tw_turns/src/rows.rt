@@ -140,36 +140,34 @@ fn a_worker_commits_now_and_then_and_at_the_end(rt: HostRuntime) {
 #[test]
 fn who_slept_looks_shortly_for_a_while(rt: HostRuntime) {
     let mut pace = Pace::new(10);
-    assert!(rt; pace.looks().micros == 200 && pace.looks().rounds == 1_024);
+    assert!(rt; pace.looks().micros == 500 && pace.looks().rounds == 1_024);
     rest(&mut pace, 1, 1);
     assert!(rt; pace.looks().micros == 12 && pace.looks().rounds == 64);
-    rest(&mut pace, 7, 0);
+    rest(&mut pace, 1, 0);
+    assert!(rt; pace.looks().micros == 500);
+    // The next time for 2 rests.
+    rest(&mut pace, 2, 1);
     assert!(rt; pace.looks().micros == 12);
     rest(&mut pace, 1, 0);
-    assert!(rt; pace.looks().micros == 200);
-    // The next time for 16 rests.
-    rest(&mut pace, 16, 1);
-    assert!(rt; pace.looks().micros == 12);
-    rest(&mut pace, 1, 0);
-    assert!(rt; pace.looks().micros == 200);
-    // After a calm of 256 for 16 again, and not for 32.
+    assert!(rt; pace.looks().micros == 500);
+    // After a calm of 256 for 2 again, and not for 4.
     rest(&mut pace, 256, 0);
-    rest(&mut pace, 16, 1);
+    rest(&mut pace, 2, 1);
     assert!(rt; pace.looks().micros == 12);
     rest(&mut pace, 1, 0);
-    assert!(rt; pace.looks().micros == 200);
+    assert!(rt; pace.looks().micros == 500);
 }
 
 #[test]
 fn looks_end_by_a_clock_that_goes_on(rt: HostRuntime) {
     let looks = Looks {
         rounds: 1_024,
-        micros: 200,
+        micros: 500,
     };
     assert!(rt;
-        !looks.are_over(Some(1_000), Some(1_199)) && looks.are_over(Some(1_000), Some(1_200))
+        !looks.are_over(Some(1_000), Some(1_499)) && looks.are_over(Some(1_000), Some(1_500))
     );
-    assert!(rt; !looks.are_over(Some(1_000), Some(900)) && !looks.are_over(None, Some(1_200)));
+    assert!(rt; !looks.are_over(Some(1_000), Some(900)) && !looks.are_over(None, Some(1_500)));
     assert!(rt; !looks.are_over(Some(1_000), None));
 }
 
